@@ -1,6 +1,7 @@
 -- Bytes, and numbers written in several bytes with the lowest byte first. Assumes nothing.
 use mathlib.Core.List.{List, [], _∷_}
 use Prim.Native.Nat.{ℕ, zero, suc, _+_, _*_, _/_, _%_, _<_}
+use lib.ListN.{take, drop}
 use Rattle.std.specs.shelf.Lists.{All}
 
 -- each element is a byte: below 256
@@ -16,3 +17,7 @@ number (b ∷ bs) = b + 256 * number bs
 abbrev pub le : ℕ → ℕ → List ℕ
 le zero n = []
 le (suc k) n = n % 256 ∷ le k (n / 256)
+
+-- the k elements from offset at on, or as many of them as there are
+abbrev pub part : {X : Type 0} → (at k : ℕ) → List X → List X
+part at k xs = take k (drop at xs)

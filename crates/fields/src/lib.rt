@@ -1,12 +1,41 @@
-// Fields of several bytes: what their bytes mean, and the lemmas that every layer shares.
-ghost use Rattle.fields.specs.Numbers.{Bytes};
+// Fields of several bytes, the lowest byte first, read from any bytes; and the lemmas on them that every layer shares.
+ghost use mathlib.Core.Path.{_≡_};
+ghost use Prim.Native.Nat.{_+_};
+ghost use lib.ListN.{getD};
+ghost use Rattle.fields.specs.Numbers.{number, part};
 
-// The elements of a slice are bytes. A proof knows this of an element that is read, so each is read; nothing is left
-// of it once compiled.
-pub fn bytes_fit(s: &[u8])
-    ensures { λ _. ⌜ Bytes (now (s .entry)) ⌝ }
+// The byte at an offset; one that is not there counts as 0.
+pub fn byte_at(bytes: &[u8], at: usize) -> u8
+    ensures { λ r. ⌜ r ≡ getD (now (bytes .entry)) at 0 ⌝ }
 {
-    for x in s {
-        let _byte = *x;
+    if at < bytes.len() { bytes[at] } else { 0 }
+}
+
+// The byte that many places past an offset.
+fn byte_past(bytes: &[u8], at: usize, by: usize) -> u8
+    ensures { λ r. ⌜ r ≡ getD (now (bytes .entry)) (at + by) 0 ⌝ }
+{
+    match at.checked_add(by) {
+        Some(sum) => byte_at(bytes, sum),
+        None => 0,
     }
+}
+
+// The number in the two bytes from an offset on; bytes that are not there count as 0.
+pub fn u16_at(bytes: &[u8], at: usize) -> u16
+    ensures { λ r. ⌜ r ≡ number (part at 2 (now (bytes .entry))) ⌝ }
+{
+    u16::from_le_bytes([byte_at(bytes, at), byte_past(bytes, at, 1)])
+}
+
+// The number in the four bytes from an offset on; bytes that are not there count as 0.
+pub fn u32_at(bytes: &[u8], at: usize) -> u32
+    ensures { λ r. ⌜ r ≡ number (part at 4 (now (bytes .entry))) ⌝ }
+{
+    u32::from_le_bytes([
+        byte_at(bytes, at),
+        byte_past(bytes, at, 1),
+        byte_past(bytes, at, 2),
+        byte_past(bytes, at, 3),
+    ])
 }

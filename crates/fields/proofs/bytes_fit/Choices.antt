@@ -1,6 +1,0 @@
-use Prim.Native.Nat.{ℕ, _<_}
-use lib.ListN.{getD}
-use Rattle.fields.proofs.bytes_fit.Given as given
-
-abbrev pub Inv-loop-x : given.InvT-loop-x
-Inv-loop-x l = (k : ℕ) → k < l .x-index → getD (l .s) k 0 < 256
