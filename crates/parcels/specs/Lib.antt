@@ -1,0 +1,4 @@
+pub mod Format
+pub mod Meaning
+pub mod Reading
+pub mod Walk

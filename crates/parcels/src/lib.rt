@@ -1,0 +1,13 @@
+// Parcels: a list of messages and notes for one chapter, read whole or refused, without a copy.
+mod fault;
+mod header;
+mod item;
+mod items;
+mod parcel;
+mod walk;
+
+pub use fault::ParcelFault;
+pub use item::Item;
+pub use parcel::Parcel;
+pub use walk::Items;
+pub use walk::ItemsIterator;
