@@ -15,7 +15,7 @@ use Rattle.parcels.specs.declared.item.Item.{Item}
 use Rattle.parcels.specs.declared.walk.Items.{Items}
 use Rattle.parcels.specs.Format.{ItemValue}
 use Rattle.parcels.specs.Meaning.{valueOf, opened}
-use Rattle.parcels.specs.Reading.{readItem, readItems, itemThen, frontThen, frontItems, headerRefusal, readParcel, chapterOf, countOf}
+use Rattle.parcels.specs.Reading.{readItem, readItems, itemThen, frontThen, frontItems, headerRefusal, readParcel, chapterOf, countOf, forChapter}
 use Rattle.parcels.specs.Walk.{numbered, toCome}
 use Rattle.parcels.proofs.Opening.{errPart-mapped, none-some}
 
@@ -47,14 +47,17 @@ err-from-part : {X : Type 0} (r : Result X (ℕ × ℕ)) (e : ℕ × ℕ) → er
 err-from-part (Ok x) e is = absurd (none-some is)
 err-from-part (Err d) e is = cc
 
+pub header-refused : (kind width : ℕ) (bytes : List ℕ) (e : ℕ × ℕ) → Some e ≡ headerRefusal kind bytes → Err e ≡ readParcel kind width bytes
+header-refused kind width bytes e refused = rw (← refused)
+
 -- a parcel whose header is not refused, by its fields and the bytes after the header as the code has them
 module _ (kind width : ℕ) (bytes : List ℕ) (count : ℕ) (header : None ≡ headerRefusal kind bytes) (counted : count ≡ countOf bytes) where
   abbrev after : List ℕ
   after = take (length bytes - 12) (drop 12 bytes)
 
   -- the parcel's answer by that of its items
-  read-by : (r : Result (List ItemValue) (ℕ × ℕ)) → readItems width (length bytes) count after ≡ r → readParcel kind width bytes ≡ mapped (λ items. record { chapter = chapterOf bytes; items = items }) (λ e. e) r
-  read-by r is = rw (← header, ← counted) (ap (mapped (λ items. record { chapter = chapterOf bytes; items = items }) (λ e. e)) (ap (readItems width (length bytes) count) (sym (take-rest bytes 12)) ∙ is))
+  read-by : (r : Result (List ItemValue) (ℕ × ℕ)) → readItems width (length bytes) count after ≡ r → readParcel kind width bytes ≡ mapped (forChapter bytes) (λ e. e) r
+  read-by r is = rw (← header, ← counted) (ap (mapped (forChapter bytes) (λ e. e)) (ap (readItems width (length bytes) count) (sym (take-rest bytes 12)) ∙ is))
 
   pub parcel-refused : (e : ℕ × ℕ) → Some e ≡ errPart (readItems width (length bytes) count after) → Err e ≡ readParcel kind width bytes
   parcel-refused e refused = sym (read-by (Err e) (err-from-part _ e (sym refused)))

@@ -1,6 +1,8 @@
 -- What any bytes mean as a parcel: its contents, or the number and place of the refusal. Assumes nothing.
+use mathlib.Core.Path.{_≡_}
 use mathlib.Core.Bool.{cond, not}
 use mathlib.Core.List.{List, [], _∷_}
+use mathlib.Core.Logic.{_↔_}
 use Prim.Native.Nat.{ℕ, zero, suc, _-_}
 use lib.Dec.{eqb, leb, ltb}
 use lib.ListN.{length, take, drop, getD}
@@ -11,7 +13,7 @@ use Rattle.std.specs.declared.result.Result.the-variants.{Ok, Err}
 use Rattle.std.specs.Results.{mapped}
 use Rattle.std.specs.shelf.Text.{sameBytes}
 use Rattle.fields.specs.Numbers.{number, part}
-use Rattle.parcels.specs.Format.{ItemValue, message, note, Contents, parcelMark, parcelVersion}
+use Rattle.parcels.specs.Format.{ItemValue, message, note, Contents, parcelMark, parcelVersion, encode, Fits}
 
 -- the first k bytes made into an item, with the bytes after them, if there are as many
 abbrev pub cutItem : ℕ → (List ℕ → ItemValue) → List ℕ → Option (ItemValue × List ℕ)
@@ -59,11 +61,15 @@ abbrev pub unlessRefused : {X : Type 0} → Option (ℕ × ℕ) → Result X (�
 unlessRefused None r = r
 unlessRefused (Some e) r = Err e
 
+-- items under the chapter number of the header
+abbrev pub forChapter : List ℕ → List ItemValue → Contents
+forChapter bytes items = record { chapter = chapterOf bytes; items = items }
+
 -- a whole parcel of a kind and its message width
 abbrev pub readParcel : (kind width : ℕ) → List ℕ → Result Contents (ℕ × ℕ)
 readParcel kind width bytes =
     unlessRefused (headerRefusal kind bytes)
-    (mapped (λ items. record { chapter = chapterOf bytes; items = items }) (λ e. e) (readItems width (length bytes) (countOf bytes) (drop 12 bytes)))
+    (mapped (forChapter bytes) (λ e. e) (readItems width (length bytes) (countOf bytes) (drop 12 bytes)))
 
 -- the items that can be read from the front, at most n of them
 abbrev pub frontThen : Option (ItemValue × List ℕ) → (List ℕ → List ItemValue) → List ItemValue
@@ -73,3 +79,7 @@ frontThen (Some p) others = p .0 ∷ others (p .1)
 abbrev pub frontItems : (width n : ℕ) → List ℕ → List ItemValue
 frontItems width zero bytes = []
 frontItems width (suc n) bytes = frontThen (readItem width bytes) (frontItems width n)
+
+-- an answer to bytes that accepts exactly what was written: it is Ok c exactly if the bytes are c written down
+abbrev pub AcceptsWritten : (kind width : ℕ) → List ℕ → Result Contents (ℕ × ℕ) → Type 0
+AcceptsWritten kind width bytes r = (c : Contents) → (r ≡ Ok c) ↔ ((bytes ≡ encode kind c) × Fits width c)

@@ -1,10 +1,8 @@
 // A parcel that was read whole.
 ghost use mathlib.Core.Path.{_≡_};
 ghost use Rattle.std.specs.Results.{mapped};
-ghost use Rattle.std.specs.declared.result.Result.the-variants.{Ok};
-ghost use Rattle.parcels.specs.Format.{Contents, encode, Fits};
 ghost use Rattle.parcels.specs.Meaning.{coded};
-ghost use Rattle.parcels.specs.Reading.{readParcel};
+ghost use Rattle.parcels.specs.Reading.{readParcel, AcceptsWritten};
 ghost use Rattle.parcels.specs.Walk.{contents, numbered, toCome};
 use crate::fault::ParcelFault;
 use crate::header::LENGTH;
@@ -25,6 +23,7 @@ impl<'a> Parcel<'a> {
     // The parcel that the bytes are, for a kind and its message width, or the refusal.
     pub fn read(bytes: &'a [u8], kind: u8, width: usize) -> Result<Parcel<'a>, ParcelFault>
         ensures answer { λ r. ⌜ mapped contents coded r ≡ readParcel kind width (now (bytes .entry)) ⌝ }
+        ensures written { λ r. ⌜ AcceptsWritten kind width (now (bytes .entry)) (mapped contents coded r) ⌝ }
     {
         test_header(bytes, kind)?;
         let items = &bytes[LENGTH..];
