@@ -1,3 +1,4 @@
+pub mod Counting
 pub mod Opening
 pub mod Walking
 pub mod Written

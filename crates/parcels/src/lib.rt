@@ -1,4 +1,5 @@
 // Parcels: a list of messages and notes for one chapter, read whole or refused, without a copy.
+mod count;
 mod fault;
 mod header;
 mod item;
@@ -6,6 +7,7 @@ mod items;
 mod parcel;
 mod walk;
 
+pub use count::Counts;
 pub use fault::ParcelFault;
 pub use item::Item;
 pub use parcel::Parcel;

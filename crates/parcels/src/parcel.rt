@@ -1,5 +1,7 @@
 // A parcel that was read whole.
 ghost use mathlib.Core.Path.{_≡_};
+ghost use Prim.Native.Nat.{_^_, _<_};
+ghost use lib.ListN.{length};
 ghost use Rattle.std.specs.Results.{mapped};
 ghost use Rattle.parcels.specs.Meaning.{coded};
 ghost use Rattle.parcels.specs.Reading.{readParcel, AcceptsWritten};
@@ -47,7 +49,8 @@ impl<'a> Parcel<'a> {
 
     // The items in order, each with its number from 1.
     pub fn items(&self) -> Items<'a>
-        ensures { λ r. ⌜ toCome r ≡ numbered 1 (contents (now (self .entry)) .items) ⌝ }
+        ensures items { λ r. ⌜ toCome r ≡ numbered 1 (contents (now (self .entry)) .items) ⌝ }
+        ensures few { λ _. ⌜ length (contents (now (self .entry)) .items) < 2 ^ 16 ⌝ }
     {
         Items {
             rest: self.items,
