@@ -5,6 +5,8 @@ mod header;
 mod item;
 mod items;
 mod parcel;
+#[cfg(test)]
+mod tests;
 mod walk;
 
 pub use count::Counts;

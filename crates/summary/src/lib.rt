@@ -9,6 +9,7 @@ use std::alloc::Global;
 
 // Paragraphs: the number of their kind, and the width of a message.
 const KIND: u8 = 1;
+
 const WIDTH: usize = 16;
 
 // The line for an input: how many messages and notes it has, or why it is refused.
