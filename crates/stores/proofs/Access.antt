@@ -1,0 +1,23 @@
+-- An accepted read or write: when it is one, and what it does. Assumes nothing.
+use mathlib.Core.Path.{_≡_, refl}
+use mathlib.Core.List.{List, []}
+use Prim.Native.Nat.{ℕ, _<_}
+use native.Mathlib.Omega.{arith}
+use lib.ListN.{length, getD, set}
+use Rattle.std.specs.declared.result.Result.the-variants.{Ok, Err}
+use Rattle.std.proofs.shelf.Tests.{eq-eqb, lt-ltb}
+use Rattle.std.proofs.shelf.Ways.{tells}
+use Rattle.stores.specs.Blocks.{accessAnswer, readAnswer, readBuffer, writeAnswer, writeBlocks}
+
+pub accepted : (count n size : ℕ) → Ok tt ≡ accessAnswer count n size → (size ≡ 256) × (n < count)
+accepted count n size h = (grind (arith, tells), grind (arith, tells))
+
+module _ (blocks : List (List ℕ)) (n : ℕ) (buffer : List ℕ) (size : length buffer ≡ 256) (within : n < length blocks) where
+  pub accepts : Ok tt ≡ accessAnswer (length blocks) n (length buffer)
+  accepts = rw (eq-eqb (length buffer) 256 size, lt-ltb n (length blocks) within)
+
+  pub reads : getD blocks n [] ≡ readBuffer blocks n buffer
+  reads = rw (eq-eqb (length buffer) 256 size, lt-ltb n (length blocks) within)
+
+  pub writes : set blocks n buffer ≡ writeBlocks blocks n buffer
+  writes = rw (eq-eqb (length buffer) 256 size, lt-ltb n (length blocks) within)
