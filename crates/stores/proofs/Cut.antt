@@ -11,7 +11,7 @@ use Rattle.std.specs.shelf.Lists.{All, joined}
 use Rattle.std.proofs.shelf.Lists.{append-assoc, drop-at, drop-drop, length-append, length-drop, length-take, length-take-le, take-append-drop, take-at}
 use Rattle.std.proofs.shelf.Parts.{drop-putMid}
 use Rattle.stores.specs.Blocks.{Storable}
-use Rattle.stores.specs.Stores.{cut, memoryCount, memoryBlocks, memoryRest}
+use Rattle.stores.specs.Stores.{cut, runBlocks, runCount, runRest}
 
 pub length-cut : (k : ℕ) (bytes : List ℕ) → length (cut k bytes) ≡ k
 length-cut zero bytes = refl
@@ -54,21 +54,21 @@ cut-over (suc k) (suc n) bytes block h fits sized =
     ap (cut (suc k)) split
     ∙ ap₂ _∷_ (take-at (take 256 bytes) (over n (drop 256 bytes) block) 256 first) (ap (cut k) (drop-at (take 256 bytes) (over n (drop 256 bytes) block) 256 first) ∙ rest)
 
-pub length-memory : (bytes : List ℕ) → length (memoryBlocks bytes) ≡ memoryCount bytes
-length-memory bytes = length-cut (memoryCount bytes) bytes
+pub length-run : (bytes : List ℕ) → length (runBlocks bytes) ≡ runCount bytes
+length-run bytes = length-cut (runCount bytes) bytes
 
-pub storable-memory : (bytes : List ℕ) → Storable (memoryBlocks bytes)
-storable-memory bytes = record {
-  few = rw (length-memory bytes) (omega arith);
-  sized = sized-cut (memoryCount bytes) bytes (omega arith);
+pub storable-run : (bytes : List ℕ) → Storable (runBlocks bytes)
+storable-run bytes = record {
+  few = rw (length-run bytes) (omega arith);
+  sized = sized-cut (runCount bytes) bytes (omega arith);
 }
 
-module _ (bytes block : List ℕ) (n : ℕ) (within : n < memoryCount bytes) (sized : length block ≡ 256) where
+module _ (bytes block : List ℕ) (n : ℕ) (within : n < runCount bytes) (sized : length block ≡ 256) where
   pub length-over : length (over n bytes block) ≡ length bytes
   length-over = simp (length-append, length-take, length-drop) (omega arith)
 
-  pub memory-over : memoryBlocks (over n bytes block) ≡ set (memoryBlocks bytes) n block
-  memory-over = rw length-over (cut-over (memoryCount bytes) n bytes block within (omega arith) sized)
+  pub run-over : runBlocks (over n bytes block) ≡ set (runBlocks bytes) n block
+  run-over = rw length-over (cut-over (runCount bytes) n bytes block within (omega arith) sized)
 
-  pub rest-over : memoryRest (over n bytes block) ≡ memoryRest bytes
-  rest-over = rw length-over (drop-putMid (n * 256) 256 bytes block (memoryCount bytes * 256) (omega arith) (omega arith) sized)
+  pub rest-over : runRest (over n bytes block) ≡ runRest bytes
+  rest-over = rw length-over (drop-putMid (n * 256) 256 bytes block (runCount bytes * 256) (omega arith) (omega arith) sized)

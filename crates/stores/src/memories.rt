@@ -7,7 +7,7 @@ ghost use Rattle.std.specs.Results.{mapped};
 ghost use Rattle.std.specs.shelf.Lists.{joined};
 ghost use Rattle.stores.specs.Blocks.{readAnswer, readBuffer, writeAnswer, writeBlocks};
 ghost use Rattle.stores.specs.Faults.{coded};
-ghost use Rattle.stores.specs.Stores.{memoryBlocks, memoryCount, memoryRest};
+ghost use Rattle.stores.specs.Stores.{memoryBlocks, memoryRest, runCount};
 use crate::faults::StoreFault;
 use crate::store::BLOCK_SIZE;
 use crate::store::BlockStore;
@@ -28,7 +28,7 @@ impl Memory {
 
     pub fn into_bytes(self) -> Vec<u8>
         ensures owned { λ r. ⌜ r ≡ self .bytes ⌝ }
-        ensures bytes { λ r. ⌜ vec-items r ≡ joined (λ block. block) (memoryBlocks (vec-items (self .bytes))) ++ memoryRest (vec-items (self .bytes)) ⌝ }
+        ensures bytes { λ r. ⌜ vec-items r ≡ joined (λ block. block) (memoryBlocks self) ++ memoryRest self ⌝ }
     {
         let Memory { bytes } = self;
         bytes
@@ -36,20 +36,20 @@ impl Memory {
 }
 
 pub impl BlockStore for Memory as MemoryStore {
-    ghost blocks = { λ m. memoryBlocks (vec-items (m .bytes)) };
+    ghost blocks = { memoryBlocks };
 
     fn count(&self) -> usize
-        ensures blocks { λ r. ⌜ r ≡ length (memoryBlocks (vec-items (now (self .entry) .bytes))) ⌝ }
-        ensures bytes { λ r. ⌜ r ≡ memoryCount (vec-items (now (self .entry) .bytes)) ⌝ }
+        ensures blocks { λ r. ⌜ r ≡ length (memoryBlocks (now (self .entry))) ⌝ }
+        ensures bytes { λ r. ⌜ r ≡ runCount (vec-items (now (self .entry) .bytes)) ⌝ }
     {
         (self.bytes.len() / BLOCK_SIZE).min(MOST_BLOCKS)
     }
 
     fn read(&mut self, block: usize, buffer: &mut [u8]) -> Result<(), StoreFault>
-        ensures answer { λ r. ⌜ mapped (λ u. u) coded r ≡ readAnswer (memoryBlocks (vec-items (now (self .entry) .bytes))) block (now (buffer .entry)) ⌝ }
-        ensures buffer { λ r. ⌜ now (buffer .exit) ≡ readBuffer (memoryBlocks (vec-items (now (self .entry) .bytes))) block (now (buffer .entry)) ⌝ }
-        ensures blocks { λ r. ⌜ memoryBlocks (vec-items (now (self .exit) .bytes)) ≡ memoryBlocks (vec-items (now (self .entry) .bytes)) ⌝ }
-        ensures rest { λ r. ⌜ memoryRest (vec-items (now (self .exit) .bytes)) ≡ memoryRest (vec-items (now (self .entry) .bytes)) ⌝ }
+        ensures answer { λ r. ⌜ mapped (λ u. u) coded r ≡ readAnswer (memoryBlocks (now (self .entry))) block (now (buffer .entry)) ⌝ }
+        ensures buffer { λ r. ⌜ now (buffer .exit) ≡ readBuffer (memoryBlocks (now (self .entry))) block (now (buffer .entry)) ⌝ }
+        ensures blocks { λ r. ⌜ memoryBlocks (now (self .exit)) ≡ memoryBlocks (now (self .entry)) ⌝ }
+        ensures rest { λ r. ⌜ memoryRest (now (self .exit)) ≡ memoryRest (now (self .entry)) ⌝ }
     {
         admit(self.count(), block, buffer.len())?;
         let start = block * BLOCK_SIZE;
@@ -58,9 +58,9 @@ pub impl BlockStore for Memory as MemoryStore {
     }
 
     fn write(&mut self, block: usize, buffer: &[u8]) -> Result<(), StoreFault>
-        ensures answer { λ r. ⌜ mapped (λ u. u) coded r ≡ writeAnswer (memoryBlocks (vec-items (now (self .entry) .bytes))) block (now (buffer .entry)) ⌝ }
-        ensures blocks { λ r. ⌜ memoryBlocks (vec-items (now (self .exit) .bytes)) ≡ writeBlocks (memoryBlocks (vec-items (now (self .entry) .bytes))) block (now (buffer .entry)) ⌝ }
-        ensures rest { λ r. ⌜ memoryRest (vec-items (now (self .exit) .bytes)) ≡ memoryRest (vec-items (now (self .entry) .bytes)) ⌝ }
+        ensures answer { λ r. ⌜ mapped (λ u. u) coded r ≡ writeAnswer (memoryBlocks (now (self .entry))) block (now (buffer .entry)) ⌝ }
+        ensures blocks { λ r. ⌜ memoryBlocks (now (self .exit)) ≡ writeBlocks (memoryBlocks (now (self .entry))) block (now (buffer .entry)) ⌝ }
+        ensures rest { λ r. ⌜ memoryRest (now (self .exit)) ≡ memoryRest (now (self .entry)) ⌝ }
     {
         admit(self.count(), block, buffer.len())?;
         let start = block * BLOCK_SIZE;

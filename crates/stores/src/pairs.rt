@@ -1,0 +1,55 @@
+// A pair: two stores end to end, as one.
+ghost use mathlib.Core.Path.{_≡_};
+ghost use mathlib.Core.List.{_++_};
+ghost use Prim.Native.Nat.{_+_, min};
+ghost use lib.ListN.{length, take, drop};
+ghost use Rattle.std.specs.Results.{mapped};
+ghost use Rattle.stores.specs.Blocks.{readAnswer, readBuffer, writeAnswer, writeBlocks};
+ghost use Rattle.stores.specs.Faults.{coded};
+ghost use Rattle.stores.specs.Stores.{pairBlocks, pairRest};
+use crate::faults::StoreFault;
+use crate::store::BlockStore;
+use crate::store::MOST_BLOCKS;
+use crate::store::admit;
+
+#[derive(Drop)]
+pub struct Pair<A, B> {
+    first: A,
+    second: B,
+}
+
+impl<A: BlockStore, B: BlockStore> Pair<A, B> {
+    pub fn new(first: A, second: B) -> Pair<A, B>
+        ensures { λ r. ⌜ (r .first ≡ first) × (r .second ≡ second) ⌝ }
+    {
+        Pair { first, second }
+    }
+}
+
+pub impl<A: BlockStore, B: BlockStore> BlockStore for Pair<A, B> as PairStore {
+    ghost blocks = { pairBlocks (A·BlockStore .blocks) (B·BlockStore .blocks) };
+
+    fn count(&self) -> usize {
+        (self.first.count() + self.second.count()).min(MOST_BLOCKS)
+    }
+
+    fn read(&mut self, block: usize, buffer: &mut [u8]) -> Result<(), StoreFault> {
+        admit(self.count(), block, buffer.len())?;
+        let first = self.first.count();
+        if block < first {
+            self.first.read(block, buffer)
+        } else {
+            self.second.read(block - first, buffer)
+        }
+    }
+
+    fn write(&mut self, block: usize, buffer: &[u8]) -> Result<(), StoreFault> {
+        admit(self.count(), block, buffer.len())?;
+        let first = self.first.count();
+        if block < first {
+            self.first.write(block, buffer)
+        } else {
+            self.second.write(block - first, buffer)
+        }
+    }
+}
