@@ -1,5 +1,5 @@
 -- An accepted read or write: when it is one, and what it does. Assumes nothing.
-use mathlib.Core.Path.{_≡_, sym, _∙_}
+use mathlib.Core.Path.{_≡_, sym, ap, _∙_}
 use mathlib.Core.List.{List, []}
 use Prim.Native.Nat.{ℕ, _<_}
 use native.Mathlib.Omega.{arith}
@@ -22,10 +22,17 @@ module _ (blocks : List (List ℕ)) (n : ℕ) (buffer : List ℕ) (size : length
   pub writes : set blocks n buffer ≡ writeBlocks blocks n buffer
   writes = rw (eq-eqb (length buffer) 256 size, lt-ltb n (length blocks) within)
 
--- a call on block n of a store that hands it to the store below as block i: both are accepted, with one answer
+-- a store that hands a call on its block n to the store below as block i, where both are there: one answer, one buffer,
+-- and what is made of the blocks below after a write
 module _ (outer below : List (List ℕ)) (n i : ℕ) (buffer : List ℕ) (size : length buffer ≡ 256) (here : n < length outer) (there : i < length below) where
   pub answer-through : accessAnswer (length below) i (length buffer) ≡ accessAnswer (length outer) n (length buffer)
   answer-through = sym (accepts below i buffer size there) ∙ accepts outer n buffer size here
 
   pub read-through : getD below i [] ≡ getD outer n [] → readBuffer below i buffer ≡ readBuffer outer n buffer
   read-through same = sym (reads below i buffer size there) ∙ same ∙ reads outer n buffer size here
+
+  pub write-through : (made : List (List ℕ) → List (List ℕ)) → made (set below i buffer) ≡ set outer n buffer → made (writeBlocks below i buffer) ≡ writeBlocks outer n buffer
+  write-through made same = ap made (sym (writes below i buffer size there)) ∙ same ∙ writes outer n buffer size here
+
+  pub rest-through : {A : Type 0} (made : List (List ℕ) → A) (rest : A) → made (set below i buffer) ≡ rest → made (writeBlocks below i buffer) ≡ rest
+  rest-through made rest same = ap made (sym (writes below i buffer size there)) ∙ same

@@ -24,16 +24,33 @@ impl<A: BlockStore, B: BlockStore> Pair<A, B> {
     {
         Pair { first, second }
     }
+
+    pub fn into_stores(self) -> (A, B)
+        ensures owned { λ r. ⌜ (r .0 ≡ self .first) × (r .1 ≡ self .second) ⌝ }
+        ensures first { λ r. ⌜ A·BlockStore .blocks (r .0) ≡ take (pairRest (A·BlockStore .blocks) (B·BlockStore .blocks) self .0) (pairBlocks (A·BlockStore .blocks) (B·BlockStore .blocks) self) ⌝ }
+        ensures second { λ r. ⌜ B·BlockStore .blocks (r .1) ≡ drop (pairRest (A·BlockStore .blocks) (B·BlockStore .blocks) self .0) (pairBlocks (A·BlockStore .blocks) (B·BlockStore .blocks) self) ++ pairRest (A·BlockStore .blocks) (B·BlockStore .blocks) self .1 ⌝ }
+    {
+        let Pair { first, second } = self;
+        (first, second)
+    }
 }
 
 pub impl<A: BlockStore, B: BlockStore> BlockStore for Pair<A, B> as PairStore {
     ghost blocks = { pairBlocks (A·BlockStore .blocks) (B·BlockStore .blocks) };
 
-    fn count(&self) -> usize {
+    fn count(&self) -> usize
+        ensures blocks { λ r. ⌜ r ≡ length (pairBlocks (A·BlockStore .blocks) (B·BlockStore .blocks) (now (self .entry))) ⌝ }
+        ensures below { λ r. ⌜ r ≡ min 65535 (length (A·BlockStore .blocks (now (self .entry) .first)) + length (B·BlockStore .blocks (now (self .entry) .second))) ⌝ }
+    {
         (self.first.count() + self.second.count()).min(MOST_BLOCKS)
     }
 
-    fn read(&mut self, block: usize, buffer: &mut [u8]) -> Result<(), StoreFault> {
+    fn read(&mut self, block: usize, buffer: &mut [u8]) -> Result<(), StoreFault>
+        ensures answer { λ r. ⌜ mapped (λ u. u) coded r ≡ readAnswer (pairBlocks (A·BlockStore .blocks) (B·BlockStore .blocks) (now (self .entry))) block (now (buffer .entry)) ⌝ }
+        ensures buffer { λ r. ⌜ now (buffer .exit) ≡ readBuffer (pairBlocks (A·BlockStore .blocks) (B·BlockStore .blocks) (now (self .entry))) block (now (buffer .entry)) ⌝ }
+        ensures blocks { λ r. ⌜ pairBlocks (A·BlockStore .blocks) (B·BlockStore .blocks) (now (self .exit)) ≡ pairBlocks (A·BlockStore .blocks) (B·BlockStore .blocks) (now (self .entry)) ⌝ }
+        ensures rest { λ r. ⌜ pairRest (A·BlockStore .blocks) (B·BlockStore .blocks) (now (self .exit)) ≡ pairRest (A·BlockStore .blocks) (B·BlockStore .blocks) (now (self .entry)) ⌝ }
+    {
         admit(self.count(), block, buffer.len())?;
         let first = self.first.count();
         if block < first {
@@ -43,7 +60,11 @@ pub impl<A: BlockStore, B: BlockStore> BlockStore for Pair<A, B> as PairStore {
         }
     }
 
-    fn write(&mut self, block: usize, buffer: &[u8]) -> Result<(), StoreFault> {
+    fn write(&mut self, block: usize, buffer: &[u8]) -> Result<(), StoreFault>
+        ensures answer { λ r. ⌜ mapped (λ u. u) coded r ≡ writeAnswer (pairBlocks (A·BlockStore .blocks) (B·BlockStore .blocks) (now (self .entry))) block (now (buffer .entry)) ⌝ }
+        ensures blocks { λ r. ⌜ pairBlocks (A·BlockStore .blocks) (B·BlockStore .blocks) (now (self .exit)) ≡ writeBlocks (pairBlocks (A·BlockStore .blocks) (B·BlockStore .blocks) (now (self .entry))) block (now (buffer .entry)) ⌝ }
+        ensures rest { λ r. ⌜ pairRest (A·BlockStore .blocks) (B·BlockStore .blocks) (now (self .exit)) ≡ pairRest (A·BlockStore .blocks) (B·BlockStore .blocks) (now (self .entry)) ⌝ }
+    {
         admit(self.count(), block, buffer.len())?;
         let first = self.first.count();
         if block < first {

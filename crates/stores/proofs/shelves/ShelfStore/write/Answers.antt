@@ -1,10 +1,10 @@
-use mathlib.Core.Path.{_≡_, sym, ap, _∙_}
+use mathlib.Core.Path.{ap, _∙_}
 use Prim.Native.Nat.{_<_, _+_}
 use native.Mathlib.Omega.{arith}
-use lib.ListN.{length, set}
-use Rattle.stores.proofs.Access.{answer-through, writes}
+use lib.ListN.{length}
 use Rattle.stores.specs.Stores.{around, part}
-use Rattle.stores.proofs.Placed.{set-shelf, rest-shelf}
+use Rattle.stores.proofs.Access.{answer-through, rest-through, write-through}
+use Rattle.stores.proofs.Placed.{rest-shelf, set-shelf}
 use Rattle.stores.proofs.shelves.ShelfStore.write.Needs as need
 
 pub returns : need.returns
@@ -13,15 +13,15 @@ returns g c =
     let below = g .S·BlockStore .blocks (s .store) in
     let shelf = part (s .start) (s .limit) below in
     let n = c .args .block in
+    let i = s .start + n in
     let buffer = c .args .buffer .now in
-    let admitted = c .in-Continue-admit .ensures tt .admitted in
-    let here : n < length shelf = omega (arith, c .count .ensures .blocks) in
-    let there : s .start + n < length below = omega (arith, c .count .ensures .below) in
-    let on : n < s .limit = omega (arith, c .count .ensures .below) in
-    let written : g .S·BlockStore .blocks (c .write .last .self) ≡ set below (s .start + n) buffer =
-    c .write .ensures .blocks ∙ sym (writes below (s .start + n) buffer (admitted .0) there) in
+    let size = c .in-Continue-admit .ensures tt .admitted .0 in
+    let here : n < length shelf = omega (arith, c .count .ensures .blocks, c .in-Continue-admit .ensures tt .admitted .1) in
+    let there : i < length below = omega (arith, c .count .ensures .below, c .in-Continue-admit .ensures tt .admitted .1) in
+    let on : n < s .limit = omega (arith, c .count .ensures .below, c .in-Continue-admit .ensures tt .admitted .1) in
+    let inner = c .write .ensures in
     record {
-      answer = c .write .ensures .answer ∙ answer-through shelf below n (s .start + n) buffer (admitted .0) here there;
-      blocks = ap (part (s .start) (s .limit)) written ∙ set-shelf (s .start) (s .limit) below n on buffer ∙ writes shelf n buffer (admitted .0) here;
-      rest = ap (around (s .start) (s .limit)) written ∙ rest-shelf (s .start) (s .limit) below n on buffer;
+      answer = inner .answer ∙ answer-through shelf below n i buffer size here there;
+      blocks = ap (part (s .start) (s .limit)) (inner .blocks) ∙ write-through shelf below n i buffer size here there (part (s .start) (s .limit)) (set-shelf (s .start) (s .limit) below n on buffer);
+      rest = ap (around (s .start) (s .limit)) (inner .blocks) ∙ rest-through shelf below n i buffer size here there (around (s .start) (s .limit)) (around (s .start) (s .limit) below) (rest-shelf (s .start) (s .limit) below n on buffer);
     }
