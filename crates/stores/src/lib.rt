@@ -6,6 +6,9 @@ mod shelves;
 mod store;
 
 pub use faults::StoreFault;
+pub use faults::StoreFaultDebug;
+pub use faults::StoreFaultEq;
+pub use faults::StoreFaultPartialEq;
 pub use memories::Memory;
 pub use memories::MemoryStore;
 pub use pairs::Pair;
@@ -16,3 +19,6 @@ pub use store::BLOCK_SIZE;
 pub use store::BlockStore;
 pub use store::MOST_BLOCKS;
 pub use store::admit;
+
+#[cfg(test)]
+mod tests;

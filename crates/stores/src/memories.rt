@@ -7,7 +7,7 @@ ghost use Rattle.std.specs.Results.{mapped};
 ghost use Rattle.std.specs.shelf.Lists.{joined};
 ghost use Rattle.stores.specs.Blocks.{readAnswer, readBuffer, writeAnswer, writeBlocks};
 ghost use Rattle.stores.specs.Faults.{coded};
-ghost use Rattle.stores.specs.Stores.{memoryBlocks, memoryRest, runCount};
+ghost use Rattle.stores.specs.Stores.{memoryBlocks, memoryRest, runBlocks, runCount, runRest};
 use crate::faults::StoreFault;
 use crate::store::BLOCK_SIZE;
 use crate::store::BlockStore;
@@ -21,9 +21,11 @@ pub struct Memory {
 
 impl Memory {
     pub fn new(bytes: Vec<u8>) -> Memory
-        ensures { λ r. ⌜ r .bytes ≡ bytes ⌝ }
+        ensures owned { λ r. ⌜ r .bytes ≡ bytes ⌝ }
+        ensures blocks { λ r. ⌜ memoryBlocks r ≡ runBlocks (vec-items bytes) ⌝ }
+        ensures rest { λ r. ⌜ memoryRest r ≡ runRest (vec-items bytes) ⌝ }
     {
-        Memory { bytes }
+        Self { bytes }
     }
 
     pub fn into_bytes(self) -> Vec<u8>

@@ -6,7 +6,7 @@ ghost use lib.ListN.{length};
 ghost use Rattle.std.specs.Results.{mapped};
 ghost use Rattle.stores.specs.Blocks.{readAnswer, readBuffer, writeAnswer, writeBlocks};
 ghost use Rattle.stores.specs.Faults.{coded};
-ghost use Rattle.stores.specs.Stores.{shelfBlocks, shelfRest};
+ghost use Rattle.stores.specs.Stores.{around, part, shelfBlocks, shelfRest};
 use crate::faults::StoreFault;
 use crate::store::BlockStore;
 use crate::store::admit;
@@ -21,9 +21,11 @@ pub struct Shelf<S> {
 impl<S: BlockStore> Shelf<S> {
     // At most `limit` blocks of the store, from block `start` on. Any two numbers make a shelf; one past the end is empty.
     pub fn new(store: S, start: usize, limit: usize) -> Shelf<S>
-        ensures parts { λ r. ⌜ (r .store ≡ store) × (r .start ≡ start) × (r .limit ≡ limit) ⌝ }
+        ensures owned { λ r. ⌜ r .store ≡ store ⌝ }
+        ensures blocks { λ r. ⌜ shelfBlocks blocks r ≡ part start limit (blocks store) ⌝ }
+        ensures rest { λ r. ⌜ shelfRest blocks r ≡ around start limit (blocks store) ⌝ }
     {
-        Shelf {
+        Self {
             store,
             start,
             limit,
