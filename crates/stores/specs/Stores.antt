@@ -35,9 +35,9 @@ around start limit below = (take start below, drop (start + limit) below)
 abbrev pub united : List (List ℕ) → List (List ℕ) → List (List ℕ)
 united first second = take 65535 (first ++ second)
 
--- the blocks behind that cut
-abbrev pub surplus : List (List ℕ) → List (List ℕ) → List (List ℕ)
-surplus first second = drop 65535 (first ++ second)
+-- how many of those blocks are the first list's, and the blocks behind the cut
+abbrev pub beyond : List (List ℕ) → List (List ℕ) → ℕ × List (List ℕ)
+beyond first second = (length first, drop 65535 (first ++ second))
 
 -- memory: the run of bytes that it owns, as blocks; the bytes behind the last are in none
 abbrev pub memoryBlocks : Memory → List (List ℕ)
@@ -53,9 +53,9 @@ shelfBlocks blocks s = part (s .start) (s .limit) (blocks (s .store))
 abbrev pub shelfRest : {S : Type 0} → (S → List (List ℕ)) → Shelf S → List (List ℕ) × List (List ℕ)
 shelfRest blocks s = around (s .start) (s .limit) (blocks (s .store))
 
--- a pair: the blocks of two stores end to end; it keeps how many are the first store's, and what lies behind the cut
+-- a pair: the blocks of two stores end to end, and what it keeps of them beside those blocks
 abbrev pub pairBlocks : {A B : Type 0} → (A → List (List ℕ)) → (B → List (List ℕ)) → Pair A B → List (List ℕ)
 pairBlocks front back p = united (front (p .first)) (back (p .second))
 
 abbrev pub pairRest : {A B : Type 0} → (A → List (List ℕ)) → (B → List (List ℕ)) → Pair A B → ℕ × List (List ℕ)
-pairRest front back p = (length (front (p .first)), surplus (front (p .first)) (back (p .second)))
+pairRest front back p = beyond (front (p .first)) (back (p .second))

@@ -6,7 +6,7 @@ ghost use lib.ListN.{length, take, drop};
 ghost use Rattle.std.specs.Results.{mapped};
 ghost use Rattle.stores.specs.Blocks.{readAnswer, readBuffer, writeAnswer, writeBlocks};
 ghost use Rattle.stores.specs.Faults.{coded};
-ghost use Rattle.stores.specs.Stores.{pairBlocks, pairRest, surplus, united};
+ghost use Rattle.stores.specs.Stores.{beyond, pairBlocks, pairRest, united};
 use crate::faults::StoreFault;
 use crate::store::BlockStore;
 use crate::store::MOST_BLOCKS;
@@ -22,7 +22,7 @@ impl<A: BlockStore, B: BlockStore> Pair<A, B> {
     pub fn new(first: A, second: B) -> Pair<A, B>
         ensures owned { λ r. ⌜ (r .first ≡ first) × (r .second ≡ second) ⌝ }
         ensures blocks { λ r. ⌜ pairBlocks (A·BlockStore .blocks) (B·BlockStore .blocks) r ≡ united (A·BlockStore .blocks first) (B·BlockStore .blocks second) ⌝ }
-        ensures rest { λ r. ⌜ pairRest (A·BlockStore .blocks) (B·BlockStore .blocks) r ≡ (length (A·BlockStore .blocks first), surplus (A·BlockStore .blocks first) (B·BlockStore .blocks second)) ⌝ }
+        ensures rest { λ r. ⌜ pairRest (A·BlockStore .blocks) (B·BlockStore .blocks) r ≡ beyond (A·BlockStore .blocks first) (B·BlockStore .blocks second) ⌝ }
     {
         Self { first, second }
     }

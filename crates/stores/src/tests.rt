@@ -42,7 +42,12 @@ fn holds<S: BlockStore>(store: &mut S, filled: &[u8]) -> Result<(), Fail> {
     Ok(())
 }
 
-fn refused<S: BlockStore>(store: &mut S, block: usize, buffer: &mut [u8], fault: StoreFault) -> Result<(), Fail> {
+fn refused<S: BlockStore>(
+    store: &mut S,
+    block: usize,
+    buffer: &mut [u8],
+    fault: StoreFault,
+) -> Result<(), Fail> {
     check_eq(store.read(block, buffer), Err(fault))?;
     check_eq(store.write(block, buffer), Err(fault))?;
     for byte in buffer.iter() {
@@ -52,7 +57,13 @@ fn refused<S: BlockStore>(store: &mut S, block: usize, buffer: &mut [u8], fault:
 }
 
 // The blocks hold these bytes; after block n is filled with `byte`, it alone holds another.
-fn takes<S: BlockStore>(store: &mut S, before: &[u8], n: usize, byte: u8, after: &[u8]) -> Result<(), Fail> {
+fn takes<S: BlockStore>(
+    store: &mut S,
+    before: &[u8],
+    n: usize,
+    byte: u8,
+    after: &[u8],
+) -> Result<(), Fail> {
     holds(store, before)?;
     check_eq(store.write(n, &[byte; BLOCK_SIZE]), Ok(()))?;
     holds(store, after)
@@ -60,7 +71,12 @@ fn takes<S: BlockStore>(store: &mut S, before: &[u8], n: usize, byte: u8, after:
 
 #[test]
 fn memory_has_whole_blocks(rt: LibcRuntime) -> Result<(), Fail> {
-    for (blocks, rest, filled) in [(0, 0, b"" as &[u8]), (0, 255, b""), (1, 0, b"\0"), (2, 255, b"\0\x01")] {
+    for (blocks, rest, filled) in [
+        (0, 0, b"" as &[u8]),
+        (0, 255, b""),
+        (1, 0, b"\0"),
+        (2, 255, b"\0\x01"),
+    ] {
         holds(&mut numbered(rt.alloc(), blocks, rest)?, filled)?;
     }
     let mut memory = numbered(rt.alloc(), 3, 1)?;
@@ -84,8 +100,14 @@ fn pairs_stand_end_to_end(rt: LibcRuntime) -> Result<(), Fail> {
     let mut pair = Pair::new(numbered(heap, 2, 5)?, numbered(heap, 3, 0)?);
     takes(&mut pair, &[0, 1, 0, 1, 2], 1, 8, &[0, 8, 0, 1, 2])?;
     takes(&mut pair, &[0, 8, 0, 1, 2], 2, 9, &[0, 8, 9, 1, 2])?;
-    holds(&mut Pair::new(shelf(heap, 6, 1)?, numbered(heap, 1, 0)?), &[0])?;
-    holds(&mut Pair::new(shelf(heap, 3, 2)?, shelf(heap, 9, 9)?), &[3, 4])
+    holds(
+        &mut Pair::new(shelf(heap, 6, 1)?, numbered(heap, 1, 0)?),
+        &[0],
+    )?;
+    holds(
+        &mut Pair::new(shelf(heap, 3, 2)?, shelf(heap, 9, 9)?),
+        &[3, 4],
+    )
 }
 
 #[test]
@@ -102,14 +124,25 @@ fn a_pile_comes_apart_as_it_was_written(rt: LibcRuntime) -> Result<(), Fail> {
     holds(&mut second.into_store(), &[0, 1, 201, 3, 4, 5])?;
     let bytes = below.into_bytes();
     check(bytes.len() == 6 * 256 + 10)?;
-    check_eq((bytes[5 * 256 - 1], bytes[5 * 256], bytes[6 * 256 - 1], bytes[6 * 256]), (4, 200, 200, 99))
+    check_eq(
+        (
+            bytes[5 * 256 - 1],
+            bytes[5 * 256],
+            bytes[6 * 256 - 1],
+            bytes[6 * 256],
+        ),
+        (4, 200, 200, 99),
+    )
 }
 
 // The store is as large as one may be: its last block is there, and the one behind it is not.
 fn is_full<S: BlockStore>(store: &mut S) -> Result<(), Fail> {
     let mut buffer = [77; BLOCK_SIZE];
     check_eq(store.count(), 65_535)?;
-    check_eq(store.read(65_535, &mut buffer), Err(StoreFault::NoBlock(65_535)))?;
+    check_eq(
+        store.read(65_535, &mut buffer),
+        Err(StoreFault::NoBlock(65_535)),
+    )?;
     check_eq(store.read(65_534, &mut buffer), Ok(()))?;
     check(buffer == [0; BLOCK_SIZE])
 }
@@ -117,15 +150,20 @@ fn is_full<S: BlockStore>(store: &mut S) -> Result<(), Fail> {
 #[test]
 fn no_store_has_more_than_65535_blocks(rt: LibcRuntime) -> Result<(), Fail> {
     let heap = rt.alloc();
-    is_full(&mut Memory::new(vec![in heap; 0; 65_535 * 256]?))?;
-    let large = Memory::new(vec![in heap; 0; 65_536 * 256 + 1]?);
-    is_full(&mut Pair::new(Shelf::new(large, 1, 65_534), numbered(heap, 1, 0)?))?;
-    is_full(&mut Pair::new(Memory::new(vec![in heap; 0; 65_535 * 256]?), numbered(heap, 3, 0)?))
+    let mut full = Memory::new(vec![in heap; 0; 65_535 * 256]?);
+    is_full(&mut full)?;
+    is_full(&mut Pair::new(full, numbered(heap, 3, 0)?))?;
+    let mut large = Memory::new(vec![in heap; 0; 65_536 * 256 + 1]?);
+    is_full(&mut large)?;
+    is_full(&mut Pair::new(shelf(heap, 5, 1)?, large))
 }
 
 #[test]
 fn refusals_have_a_number_and_a_place() -> Result<(), Fail> {
-    for (fault, number, place) in [(StoreFault::NoBlock(5), 11, 5), (StoreFault::BufferLength(255), 12, 255)] {
+    for (fault, number, place) in [
+        (StoreFault::NoBlock(5), 11, 5),
+        (StoreFault::BufferLength(255), 12, 255),
+    ] {
         check_eq((fault.number(), fault.place()), (number, place))?;
     }
     Ok(())

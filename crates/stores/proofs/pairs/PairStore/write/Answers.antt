@@ -1,50 +1,43 @@
-use mathlib.Core.Path.{_≡_, ap, ap₂, _∙_}
+use mathlib.Core.Path.{_≡_, ap, _∙_}
 use Prim.Native.Nat.{_+_, _-_, _<_}
 use native.Mathlib.Omega.{arith}
-use lib.ListN.{length, length-set}
-use Rattle.stores.specs.Stores.{surplus, united}
+use lib.ListN.{length}
+use Rattle.stores.specs.Stores.{beyond, united}
 use Rattle.stores.proofs.Access.{answer-through, rest-through, write-through}
-use Rattle.stores.proofs.United.{set-back, set-front}
+use Rattle.stores.proofs.United.{back-stands, beyond-back, beyond-front, front-stands, set-back, set-front}
 use Rattle.stores.proofs.pairs.PairStore.write.Needs as need
 
 pub returns-then-block-first : need.returns-then-block-first
 returns-then-block-first g c =
-    let p = c .args .self .now in
-    let first = g .A·BlockStore .blocks (p .first) in
-    let second = g .B·BlockStore .blocks (p .second) in
-    let pair = united first second in
+    let first = g .A·BlockStore .blocks (c .args .self .now .first) in
+    let second = g .B·BlockStore .blocks (c .args .self .now .second) in
     let n = c .args .block in
     let buffer = c .args .buffer .now in
     let admitted = c .in-Continue-admit .ensures tt .admitted in
-    let here : n < length pair = omega (arith, c .count .ensures .blocks) in
-    let there : n < length first = omega (arith, c .if-block-first .taken, c .count-first .ensures) in
-    let before : n < 65535 = omega (arith, c .count .ensures .below) in
+    let within : n < length (united first second) = omega (arith, c .count .ensures .blocks) in
+    let here : n < length first = omega (arith, c .if-block-first .taken, c .count-first .ensures) in
+    let stands = front-stands first second n within here in
     let inner = c .write .ensures in
-    let set = set-front first second n before buffer there in
     record {
-      answer = inner .answer ∙ answer-through pair first n n buffer (admitted .0) here there;
-      blocks = ap (λ xs. united xs second) (inner .blocks) ∙ write-through pair first n n buffer (admitted .0) here there (λ xs. united xs second) (set .0);
-      rest = ap (λ xs. (length xs, surplus xs second)) (inner .blocks) ∙ rest-through pair first n n buffer (admitted .0) here there (λ xs. (length xs, surplus xs second)) (length first, surplus first second) (ap₂ (λ k xs. (k, xs)) (length-set first n buffer) (set .1));
+      answer = answer-through stands buffer (admitted .0) (inner .answer);
+      blocks = write-through stands buffer (admitted .0) (inner .blocks) (λ xs. united xs second) (set-front first second n within here buffer);
+      rest = rest-through stands buffer (admitted .0) (inner .blocks) (λ xs. beyond xs second) (beyond-front first second n within here buffer);
     }
 
 pub returns-else-block-first : need.returns-else-block-first
 returns-else-block-first g c =
-    let p = c .args .self .now in
-    let first = g .A·BlockStore .blocks (p .first) in
-    let second = g .B·BlockStore .blocks (p .second) in
-    let pair = united first second in
+    let first = g .A·BlockStore .blocks (c .args .self .now .first) in
+    let second = g .B·BlockStore .blocks (c .args .self .now .second) in
     let n = c .args .block in
     let i = n - c .count-first .result in
     let buffer = c .args .buffer .now in
     let admitted = c .in-Continue-admit .ensures tt .admitted in
-    let here : n < length pair = omega (arith, c .count .ensures .blocks) in
+    let within : n < length (united first second) = omega (arith, c .count .ensures .blocks) in
     let behind : length first + i ≡ n = omega (arith, c .if-block-first .left, c .count-first .ensures) in
-    let there : i < length second = omega (arith, c .count .ensures .below) in
-    let before : n < 65535 = omega (arith, c .count .ensures .below) in
+    let stands = back-stands first second n within i behind in
     let inner = c .write-else-block-first .ensures in
-    let set = set-back first second n before i behind buffer in
     record {
-      answer = inner .answer ∙ answer-through pair second n i buffer (admitted .0) here there;
-      blocks = ap (united first) (inner .blocks) ∙ write-through pair second n i buffer (admitted .0) here there (united first) (set .0);
-      rest = ap (λ xs. (length first, surplus first xs)) (inner .blocks) ∙ rest-through pair second n i buffer (admitted .0) here there (λ xs. (length first, surplus first xs)) (length first, surplus first second) (ap (λ xs. (length first, xs)) (set .1));
+      answer = answer-through stands buffer (admitted .0) (inner .answer);
+      blocks = write-through stands buffer (admitted .0) (inner .blocks) (united first) (set-back first second n within i behind buffer);
+      rest = rest-through stands buffer (admitted .0) (inner .blocks) (beyond first) (beyond-back first second n within i behind buffer);
     }
