@@ -56,10 +56,9 @@ pub impl<A: BlockStore, B: BlockStore> BlockStore for Pair<A, B> as PairStore {
         admit(self.count(), block, buffer.len())?;
         let first = self.first.count();
         if block < first {
-            self.first.read(block, buffer)
-        } else {
-            self.second.read(block - first, buffer)
+            return self.first.read(block, buffer);
         }
+        self.second.read(block - first, buffer)
     }
 
     fn write(&mut self, block: usize, buffer: &[u8]) -> Result<(), StoreFault>
@@ -70,9 +69,8 @@ pub impl<A: BlockStore, B: BlockStore> BlockStore for Pair<A, B> as PairStore {
         admit(self.count(), block, buffer.len())?;
         let first = self.first.count();
         if block < first {
-            self.first.write(block, buffer)
-        } else {
-            self.second.write(block - first, buffer)
+            return self.first.write(block, buffer);
         }
+        self.second.write(block - first, buffer)
     }
 }

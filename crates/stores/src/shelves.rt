@@ -52,10 +52,8 @@ pub impl<S: BlockStore> BlockStore for Shelf<S> as ShelfStore {
         ensures blocks { λ r. ⌜ r ≡ length (shelfBlocks (S·BlockStore .blocks) (now (self .entry))) ⌝ }
         ensures below { λ r. ⌜ r ≡ min (now (self .entry) .limit) (length (S·BlockStore .blocks (now (self .entry) .store)) - now (self .entry) .start) ⌝ }
     {
-        self.store
-            .count()
-            .saturating_sub(self.start)
-            .min(self.limit)
+        let there = self.store.count().saturating_sub(self.start);
+        there.min(self.limit)
     }
 
     fn read(&mut self, block: usize, buffer: &mut [u8]) -> Result<(), StoreFault>

@@ -20,13 +20,13 @@ returns-then-block-first g c =
       rest = ap (λ xs. beyond xs second) (inner .blocks);
     }
 
-pub returns-else-block-first : need.returns-else-block-first
-returns-else-block-first g c =
+pub returns : need.returns
+returns g c =
     let first = g .A·BlockStore .blocks (c .args .self .now .first) in
     let second = g .B·BlockStore .blocks (c .args .self .now .second) in
     let admitted = c .in-Continue-admit .ensures tt .admitted in
     let stands = back-stands first second (c .args .block) (omega (arith, c .count .ensures .blocks)) (c .args .block - c .count-first .result) (omega (arith, c .if-block-first .left, c .count-first .ensures)) in
-    let inner = c .read-else-block-first .ensures in
+    let inner = c .read-2 .ensures in
     record {
       answer = answer-through stands (c .args .buffer .now) (admitted .0) (inner .answer);
       buffer = read-through stands (c .args .buffer .now) (admitted .0) (inner .buffer);

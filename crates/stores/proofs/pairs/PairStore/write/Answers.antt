@@ -24,8 +24,8 @@ returns-then-block-first g c =
       rest = rest-through stands buffer (admitted .0) (inner .blocks) (λ xs. beyond xs second) (beyond-front first second n within here buffer);
     }
 
-pub returns-else-block-first : need.returns-else-block-first
-returns-else-block-first g c =
+pub returns : need.returns
+returns g c =
     let first = g .A·BlockStore .blocks (c .args .self .now .first) in
     let second = g .B·BlockStore .blocks (c .args .self .now .second) in
     let n = c .args .block in
@@ -35,7 +35,7 @@ returns-else-block-first g c =
     let within : n < length (united first second) = omega (arith, c .count .ensures .blocks) in
     let behind : length first + i ≡ n = omega (arith, c .if-block-first .left, c .count-first .ensures) in
     let stands = back-stands first second n within i behind in
-    let inner = c .write-else-block-first .ensures in
+    let inner = c .write-2 .ensures in
     record {
       answer = answer-through stands buffer (admitted .0) (inner .answer);
       blocks = write-through stands buffer (admitted .0) (inner .blocks) (united first) (set-back first second n within i behind buffer);
