@@ -1,5 +1,5 @@
 -- An accepted read or write: what it does, and how a store hands one on to a store below. Assumes nothing.
-use mathlib.Core.Path.{_≡_, sym, ap, _∙_}
+use mathlib.Core.Path.{_≡_, sym, ap, ap₂, _∙_}
 use mathlib.Core.List.{List, []}
 use Prim.Native.Nat.{ℕ, _<_}
 use lib.ListN.{length, getD, set}
@@ -25,7 +25,7 @@ pub record Stands (outer below : List (List ℕ)) (n i : ℕ) : Type 0 where
   pub same : getD below i [] ≡ getD outer n []
 
 -- a call on block n that is handed on as one on block i: the promise of the store below gives the answer, the buffer, and
--- what is made of the blocks below after a write
+-- what is made of its blocks and its rest after a write
 module _ {outer below : List (List ℕ)} {n i : ℕ} (stands : Stands outer below n i) (buffer : List ℕ) (size : length buffer ≡ 256) where
   pub answer-through : {answer : Result (Unit {0}) (ℕ × ℕ)} → answer ≡ accessAnswer (length below) i (length buffer) → answer ≡ accessAnswer (length outer) n (length buffer)
   answer-through inner = inner ∙ sym (accepts below i buffer size (stands .there)) ∙ accepts outer n buffer size (stands .here)
@@ -38,5 +38,5 @@ module _ {outer below : List (List ℕ)} {n i : ℕ} (stands : Stands outer belo
     write-through made written =
         ap made (inner ∙ sym (writes below i buffer size (stands .there))) ∙ written ∙ writes outer n buffer size (stands .here)
 
-    pub rest-through : {A : Type 0} (made : List (List ℕ) → A) → made (set below i buffer) ≡ made below → made after ≡ made below
-    rest-through made kept = ap made (inner ∙ sym (writes below i buffer size (stands .there))) ∙ kept
+    pub rest-through : {R A : Type 0} {rest rest′ : R} → rest′ ≡ rest → (made : List (List ℕ) → R → A) → made (set below i buffer) rest ≡ made below rest → made after rest′ ≡ made below rest
+    rest-through same made kept = ap₂ made (inner ∙ sym (writes below i buffer size (stands .there))) same ∙ kept

@@ -1,6 +1,6 @@
 -- Two lists of blocks end to end: which block is whose, what a write to either does, and how they come apart again.
 -- Assumes nothing.
-use mathlib.Core.Path.{_≡_, refl, sym, ap, ap₂, _∙_}
+use mathlib.Core.Path.{_≡_, refl, sym, ap, _∙_}
 use mathlib.Core.List.{List, [], _++_}
 use Prim.Native.Nat.{ℕ, _+_, _-_, _≤_, _<_, min}
 use native.Mathlib.Omega.{arith}
@@ -9,7 +9,7 @@ use lib.Seq.{take-set-lt}
 use Rattle.std.proofs.shelf.Elements.{all-append, all-take}
 use Rattle.std.proofs.shelf.Lists.{drop-append-le, drop-at, drop-set-lt, getD-append-add, getD-append-left, getD-take, length-append, length-take, set-append-left, set-append-right, take-append-drop, take-at, take-take}
 use Rattle.stores.specs.Blocks.{Storable}
-use Rattle.stores.specs.Stores.{beyond, united}
+use Rattle.stores.specs.Stores.{offPair, united}
 use Rattle.stores.proofs.Access.{Stands}
 
 module _ (first second : List (List ℕ)) where
@@ -31,7 +31,7 @@ module _ (first second : List (List ℕ)) where
       take-both : take 65535 both ≡ set (united first second) n block
       take-both = let on = low in rw (← written, take-set-lt)
 
-      drop-both : drop 65535 both ≡ beyond first second .1
+      drop-both : drop 65535 both ≡ drop 65535 (first ++ second)
       drop-both = let on = low in rw (← written, drop-set-lt)
 
     module _ (here : n < length first) where
@@ -41,9 +41,8 @@ module _ (first second : List (List ℕ)) where
       pub set-front : (block : List ℕ) → united (set first n block) second ≡ set (united first second) n block
       set-front block = take-both block (set first n block ++ second) (set-append-left first second n block here)
 
-      pub beyond-front : (block : List ℕ) → beyond (set first n block) second ≡ beyond first second
-      beyond-front block =
-          ap₂ (λ k xs. (k, xs)) (length-set first n block) (drop-both block (set first n block ++ second) (set-append-left first second n block here))
+      pub off-pair-front : {Q R : Type 0} (q : Q) (r : R) (block : List ℕ) → offPair (set first n block) q second r ≡ offPair first q second r
+      off-pair-front q r block = rw (length-set first n block, drop-both block (set first n block ++ second) (set-append-left first second n block here))
 
     module _ (i : ℕ) (behind : length first + i ≡ n) where
       pub back-stands : Stands (united first second) second n i
@@ -61,16 +60,16 @@ module _ (first second : List (List ℕ)) where
       pub set-back : (block : List ℕ) → united first (set second i block) ≡ set (united first second) n block
       set-back block = take-both block (first ++ set second i block) (moved block)
 
-      pub beyond-back : (block : List ℕ) → beyond first (set second i block) ≡ beyond first second
-      beyond-back block = ap (λ xs. (length first, xs)) (drop-both block (first ++ set second i block) (moved block))
+      pub off-pair-back : {Q R : Type 0} (q : Q) (r : R) (block : List ℕ) → offPair first q (set second i block) r ≡ offPair first q second r
+      off-pair-back q r block = rw (drop-both block (first ++ set second i block) (moved block))
 
   module _ (few : length first ≤ 65535) where
     pub front-united : take (length first) (united first second) ≡ first
     front-united = take-take (length first) 65535 (first ++ second) few ∙ take-at first second (length first) refl
 
-    pub back-united : drop (length first) (united first second) ++ beyond first second .1 ≡ second
+    pub back-united : drop (length first) (united first second) ++ drop 65535 (first ++ second) ≡ second
     back-united =
         let within : length first ≤ length (united first second) = rw length-united (omega arith) in
-        sym (drop-append-le (length first) (united first second) (beyond first second .1) within)
+        sym (drop-append-le (length first) (united first second) (drop 65535 (first ++ second)) within)
         ∙ ap (drop (length first)) (take-append-drop 65535 (first ++ second))
         ∙ drop-at first second (length first) refl

@@ -17,6 +17,11 @@ pub trait BlockStore {
     // The store's meaning: its blocks, from block 0 on.
     ghost blocks: { Self → List (List ℕ) };
 
+    // What the store keeps beside its blocks: no call changes it, so that it is as it was when the store is taken apart.
+    ghost Rest: { Type 0 };
+
+    ghost rest: { Self → Rest };
+
     law storable: { (s : Self) → Storable (blocks s) };
 
     fn count(&self) -> usize
@@ -25,12 +30,14 @@ pub trait BlockStore {
     // Fills the buffer with a block. A store may move what it needs to read, as a place in a file, and no block.
     fn read(&mut self, block: usize, buffer: &mut [u8]) -> Result<(), StoreFault>
         ensures answer { λ r. ⌜ mapped (λ u. u) coded r ≡ readAnswer (blocks (now (self .entry))) block (now (buffer .entry)) ⌝ }
-        ensures buffer { λ r. ⌜ now (buffer .exit) ≡ readBuffer (blocks (now (self .entry))) block (now (buffer .entry)) ⌝ }
-        ensures blocks { λ r. ⌜ blocks (now (self .exit)) ≡ blocks (now (self .entry)) ⌝ };
+        ensures buffer { λ _. ⌜ now (buffer .exit) ≡ readBuffer (blocks (now (self .entry))) block (now (buffer .entry)) ⌝ }
+        ensures blocks { λ _. ⌜ blocks (now (self .exit)) ≡ blocks (now (self .entry)) ⌝ }
+        ensures rest { λ _. ⌜ rest (now (self .exit)) ≡ rest (now (self .entry)) ⌝ };
 
     fn write(&mut self, block: usize, buffer: &[u8]) -> Result<(), StoreFault>
         ensures answer { λ r. ⌜ mapped (λ u. u) coded r ≡ writeAnswer (blocks (now (self .entry))) block (now (buffer .entry)) ⌝ }
-        ensures blocks { λ r. ⌜ blocks (now (self .exit)) ≡ writeBlocks (blocks (now (self .entry))) block (now (buffer .entry)) ⌝ };
+        ensures blocks { λ _. ⌜ blocks (now (self .exit)) ≡ writeBlocks (blocks (now (self .entry))) block (now (buffer .entry)) ⌝ }
+        ensures rest { λ _. ⌜ rest (now (self .exit)) ≡ rest (now (self .entry)) ⌝ };
 }
 
 // Whether a read or a write may go on: the buffer is tested first, then the block.

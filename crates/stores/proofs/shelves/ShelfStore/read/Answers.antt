@@ -1,6 +1,6 @@
-use mathlib.Core.Path.{ap, _∙_}
+use mathlib.Core.Path.{ap, ap₂}
 use native.Mathlib.Omega.{arith}
-use Rattle.stores.specs.Stores.{around, part}
+use Rattle.stores.specs.Stores.{offShelf, part}
 use Rattle.stores.proofs.Access.{answer-through, read-through}
 use Rattle.stores.proofs.Placed.{part-stands}
 use Rattle.stores.proofs.shelves.ShelfStore.read.Needs as need
@@ -15,5 +15,5 @@ returns g c =
       answer = answer-through stands (c .args .buffer .now) (admitted .0) (inner .answer);
       buffer = read-through stands (c .args .buffer .now) (admitted .0) (inner .buffer);
       blocks = ap (part (s .start) (s .limit)) (inner .blocks);
-      rest = ap (around (s .start) (s .limit)) (inner .blocks);
+      rest = ap₂ (offShelf (s .start) (s .limit)) (inner .blocks) (inner .rest);
     }

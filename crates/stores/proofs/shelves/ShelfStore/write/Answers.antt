@@ -1,10 +1,9 @@
-use mathlib.Core.Path.{ap, _∙_}
 use native.Mathlib.Omega.{arith}
 use Prim.Native.Nat.{_<_}
 use lib.ListN.{length}
-use Rattle.stores.specs.Stores.{around, part}
+use Rattle.stores.specs.Stores.{offShelf, part}
 use Rattle.stores.proofs.Access.{answer-through, rest-through, write-through}
-use Rattle.stores.proofs.Placed.{around-set, part-stands, set-part}
+use Rattle.stores.proofs.Placed.{off-shelf-set, part-stands, set-part}
 use Rattle.stores.proofs.shelves.ShelfStore.write.Needs as need
 
 pub returns : need.returns
@@ -19,5 +18,5 @@ returns g c =
     record {
       answer = answer-through stands buffer (admitted .0) (inner .answer);
       blocks = write-through stands buffer (admitted .0) (inner .blocks) (part (s .start) (s .limit)) (set-part (s .start) (s .limit) below (c .args .block) within buffer);
-      rest = rest-through stands buffer (admitted .0) (inner .blocks) (around (s .start) (s .limit)) (around-set (s .start) (s .limit) below (c .args .block) within buffer);
+      rest = rest-through stands buffer (admitted .0) (inner .blocks) (inner .rest) (offShelf (s .start) (s .limit)) (off-shelf-set (s .start) (s .limit) below (c .args .block) within (g .S·BlockStore .rest (s .store)) buffer);
     }
