@@ -1,0 +1,69 @@
+// A shelf: a run of the blocks of another store, as a store of its own.
+ghost use mathlib.Core.Path.{_≡_};
+ghost use mathlib.Core.List.{_++_};
+ghost use Prim.Native.Nat.{_-_, min};
+ghost use lib.ListN.{length};
+ghost use Rattle.stores.specs.Stores.{OffShelf, offShelf, part, shelfBlocks, shelfRest};
+use crate::faults::StoreFault;
+use crate::store::BlockStore;
+use crate::store::admit;
+
+#[derive(Drop)]
+pub struct Shelf<S> {
+    store: S,
+    start: usize,
+    limit: usize,
+}
+
+impl<S: BlockStore> Shelf<S> {
+    // At most `limit` blocks of the store, from block `start` on. Any two numbers make a shelf; one past the end is empty.
+    pub fn new(store: S, start: usize, limit: usize) -> Shelf<S>
+        ensures owned { λ r. ⌜ r .store ≡ store ⌝ }
+        ensures blocks { λ r. ⌜ shelfBlocks blocks r ≡ part start limit (blocks store) ⌝ }
+        ensures rest { λ r. ⌜ shelfRest blocks rest r ≡ offShelf start limit (blocks store) (rest store) ⌝ }
+    {
+        Self {
+            store,
+            start,
+            limit,
+        }
+    }
+
+    pub fn into_store(self) -> S
+        ensures owned { λ r. ⌜ r ≡ self .store ⌝ }
+        ensures blocks { λ r. ⌜ blocks r ≡ shelfRest blocks rest self .before ++ shelfBlocks blocks self ++ shelfRest blocks rest self .behind ⌝ }
+    {
+        let Shelf {
+            store,
+            start: _,
+            limit: _,
+        } = self;
+        store
+    }
+}
+
+pub impl<S: BlockStore> BlockStore for Shelf<S> as ShelfStore {
+    ghost blocks = { shelfBlocks (S·BlockStore .blocks) };
+
+    ghost Rest = { OffShelf (S·BlockStore .Rest) };
+
+    ghost rest = { shelfRest (S·BlockStore .blocks) (S·BlockStore .rest) };
+
+    fn count(&self) -> usize
+        ensures blocks { λ r. ⌜ r ≡ length (shelfBlocks (S·BlockStore .blocks) (now (self .entry))) ⌝ }
+        ensures below { λ r. ⌜ r ≡ min (now (self .entry) .limit) (length (S·BlockStore .blocks (now (self .entry) .store)) - now (self .entry) .start) ⌝ }
+    {
+        let there = self.store.count().saturating_sub(self.start);
+        there.min(self.limit)
+    }
+
+    fn read(&mut self, block: usize, buffer: &mut [u8]) -> Result<(), StoreFault> {
+        admit(self.count(), block, buffer.len())?;
+        self.store.read(self.start + block, buffer)
+    }
+
+    fn write(&mut self, block: usize, buffer: &[u8]) -> Result<(), StoreFault> {
+        admit(self.count(), block, buffer.len())?;
+        self.store.write(self.start + block, buffer)
+    }
+}
