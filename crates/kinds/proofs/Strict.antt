@@ -11,7 +11,7 @@ use Rattle.std.specs.Orderings.{isLt, reversed}
 use Rattle.std.specs.declared.cmp.Ordering.{Ordering}
 use Rattle.std.specs.declared.cmp.Ordering.the-variants.{Less, Equal, Greater}
 use Rattle.drawing.specs.Drawing.{drawnBefore, priority}
-use Rattle.kinds.specs.Orders.{StrictOrder, TotalOrder}
+use Rattle.layout.specs.Orders.{StrictOrder, TotalOrder}
 
 less : (o : Ordering) → isLt o ≡ true → o ≡ Less
 less Less h = refl

@@ -6,10 +6,10 @@ use Prim.Native.Nat.{ℕ}
 use lib.ListN.{take}
 use Rattle.std.specs.declared.option.Option.{Option}
 use Rattle.kinds.specs.Kind.{Kind}
-use Rattle.kinds.specs.Layout.{byteAt, byFields, firstInvalid}
+use Rattle.layout.specs.Layout.{byteAt, byFields, firstInvalid}
 use Rattle.kinds.specs.Rules.{isOffice, isState, isSet, isTerm, emphasisFits}
-use Rattle.kinds.specs.declared.layout.Field.{Field}
-use Rattle.kinds.specs.declared.layout.Field.the-variants.{Byte, Folded, Number}
+use Rattle.layout.specs.declared.Field.{Field}
+use Rattle.layout.specs.declared.Field.the-variants.{Byte, Folded, Number}
 
 -- any place and any stamp is valid
 abbrev pub markInvalid : List ℕ → Option ℕ

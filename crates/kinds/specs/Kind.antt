@@ -6,7 +6,7 @@ use lib.ListN.{length, take}
 use Rattle.std.specs.declared.cmp.Ordering.{Ordering}
 use Rattle.std.specs.declared.option.Option.{Option}
 use Rattle.fields.specs.Numbers.{Bytes}
-use Rattle.kinds.specs.Orders.{TotalOrder}
+use Rattle.layout.specs.Orders.{TotalOrder}
 
 pub record Kind : Type 0 where
   pub number : ℕ

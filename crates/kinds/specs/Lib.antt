@@ -1,5 +1,3 @@
-pub mod Orders
-pub mod Layout
 pub mod Kind
 pub mod Rules
 pub mod Paragraphs

@@ -4,10 +4,10 @@ use mathlib.Core.List.{List, [], _∷_}
 use Prim.Native.Nat.{ℕ}
 use Rattle.std.specs.declared.option.Option.{Option}
 use Rattle.kinds.specs.Kind.{Kind}
-use Rattle.kinds.specs.Layout.{byteAt, numberAt, byFields, firstInvalid}
+use Rattle.layout.specs.Layout.{byteAt, numberAt, byFields, firstInvalid}
 use Rattle.kinds.specs.Rules.{isOffice, isState, linesFit, textFits}
-use Rattle.kinds.specs.declared.layout.Field.{Field}
-use Rattle.kinds.specs.declared.layout.Field.the-variants.{Byte, Number}
+use Rattle.layout.specs.declared.Field.{Field}
+use Rattle.layout.specs.declared.Field.the-variants.{Byte, Number}
 
 -- any place and any stamp is valid
 abbrev pub paragraphInvalid : List ℕ → Option ℕ

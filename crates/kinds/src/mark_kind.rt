@@ -3,11 +3,11 @@ ghost use lib.ListN.{take};
 ghost use mathlib.Core.Path.{_≡_};
 ghost use Rattle.kinds.specs.IndexMarks.{indexMarks};
 use crate::kind::EntryKind;
-use crate::layout::Field;
-use crate::layout::byte_at;
-use crate::layout::compare_fields;
-use crate::layout::first_invalid;
 use crate::rules;
+use layout::Field;
+use layout::byte_at;
+use layout::compare_fields;
+use layout::first_invalid;
 use std::cmp::Ordering;
 
 const TERM: usize = 0;

@@ -1,12 +1,12 @@
 // The kind of paragraphs.
 ghost use Rattle.kinds.specs.Paragraphs.{paragraphs};
 use crate::kind::EntryKind;
-use crate::layout::Field;
-use crate::layout::byte_at;
-use crate::layout::compare_fields;
-use crate::layout::first_invalid;
-use crate::layout::number_at;
 use crate::rules;
+use layout::Field;
+use layout::byte_at;
+use layout::compare_fields;
+use layout::first_invalid;
+use layout::number_at;
 use std::cmp::Ordering;
 
 const PLACE: usize = 0;

@@ -6,7 +6,7 @@ use lib.Dec.{eqb}
 use lib.ListN.{getD}
 use Rattle.std.proofs.shelf.Tests.{cond-both}
 use Rattle.kinds.specs.IndexMarks.{markKey, markRank}
-use Rattle.kinds.proofs.Determined.{total-keys, total-ranks}
+use Rattle.layout.proofs.Determined.{total-keys, total-ranks}
 use Rattle.kinds.proofs.mark_kind.IndexMarksKind.the-impl.Needs as need
 
 pub lawful-law : need.lawful-law

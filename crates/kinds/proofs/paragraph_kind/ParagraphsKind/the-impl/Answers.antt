@@ -2,8 +2,8 @@ use mathlib.Core.Path.{refl}
 use native.Mathlib.Omega.{arith}
 use lib.Dec.{lit≤}
 use Rattle.kinds.specs.Paragraphs.{paragraphKey, paragraphRank}
-use Rattle.kinds.proofs.Determined.{total-keys, total-ranks}
-use Rattle.kinds.proofs.Fields.{byte-below}
+use Rattle.layout.proofs.Determined.{total-keys, total-ranks}
+use Rattle.layout.proofs.Fields.{byte-below}
 use Rattle.kinds.proofs.paragraph_kind.ParagraphsKind.the-impl.Needs as need
 
 pub lawful-law : need.lawful-law

@@ -14,9 +14,9 @@ use Rattle.std.specs.declared.cmp.Ordering.{Ordering}
 use Rattle.std.specs.declared.cmp.Ordering.the-variants.{Less, Equal, Greater}
 use Rattle.std.specs.declared.option.Option.the-variants.{Some}
 use Rattle.fields.specs.Numbers.{Bytes, number}
-use Rattle.kinds.specs.Layout.{byFields, firstInvalid, value}
-use Rattle.kinds.specs.declared.layout.Field.{Field}
-use Rattle.kinds.specs.declared.layout.Field.the-variants.{Byte}
+use Rattle.layout.specs.Layout.{byFields, firstInvalid, value}
+use Rattle.layout.specs.declared.Field.{Field}
+use Rattle.layout.specs.declared.Field.the-variants.{Byte}
 
 -- the part of a slice from an offset, which may lie past its end
 pub rest-from : (bs : List ℕ) (at from : ℕ) → from ≡ min (length bs) at → take (length bs - from) (drop from bs) ≡ drop at bs

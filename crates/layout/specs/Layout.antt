@@ -8,9 +8,9 @@ use Rattle.std.specs.declared.cmp.Ordering.{Ordering}
 use Rattle.std.specs.declared.option.Option.{Option}
 use Rattle.std.specs.declared.option.Option.the-variants.{Some, None}
 use Rattle.fields.specs.Numbers.{number}
-use Rattle.kinds.specs.Orders.{lexical}
-use Rattle.kinds.specs.declared.layout.Field.{Field}
-use Rattle.kinds.specs.declared.layout.Field.the-variants.{Byte, Folded, Number}
+use Rattle.layout.specs.Orders.{lexical}
+use Rattle.layout.specs.declared.Field.{Field}
+use Rattle.layout.specs.declared.Field.the-variants.{Byte, Folded, Number}
 
 -- the byte at an offset; one that is not there is 0
 abbrev pub byteAt : List ℕ → ℕ → ℕ

@@ -1,7 +1,7 @@
 use mathlib.Core.Path.{_≡_}
 use lib.ListN.{drop}
-use Rattle.kinds.specs.Layout.{firstInvalid}
-use Rattle.kinds.proofs.layout.first_invalid.Given as given
+use Rattle.layout.specs.Layout.{firstInvalid}
+use Rattle.layout.proofs.first_invalid.Given as given
 
 -- the tests that are left decide
 abbrev pub Inv-loop-at : given.InvT-loop-at

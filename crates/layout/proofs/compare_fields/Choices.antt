@@ -1,7 +1,7 @@
 use mathlib.Core.Path.{_≡_}
 use lib.ListN.{drop}
-use Rattle.kinds.specs.Layout.{byFields}
-use Rattle.kinds.proofs.layout.compare_fields.Given as given
+use Rattle.layout.specs.Layout.{byFields}
+use Rattle.layout.proofs.compare_fields.Given as given
 
 -- the fields that are left decide
 abbrev pub Inv-loop-field : given.InvT-loop-field

@@ -3,8 +3,8 @@ use native.Mathlib.Omega.{arith}
 use Rattle.std.proofs.shelf.Lists.{take-rest}
 use lib.ListN.{take}
 use Rattle.fields.specs.Numbers.{number}
-use Rattle.kinds.proofs.Fields.{number-four, rest-from}
-use Rattle.kinds.proofs.layout.number_at.Needs as need
+use Rattle.layout.proofs.Fields.{number-four, rest-from}
+use Rattle.layout.proofs.number_at.Needs as need
 
 pub returns : need.returns
 returns c =

@@ -1,9 +1,9 @@
 use mathlib.Core.Path.{sym, _∙_}
 use Rattle.std.proofs.shelf.Lists.{at-drop-all}
 use Rattle.std.proofs.shelf.Tests.{cond-true, cond-false}
-use Rattle.kinds.specs.Layout.{firstInvalid}
-use Rattle.kinds.proofs.Fields.{tests-more}
-use Rattle.kinds.proofs.layout.first_invalid.Needs as need
+use Rattle.layout.specs.Layout.{firstInvalid}
+use Rattle.layout.proofs.Fields.{tests-more}
+use Rattle.layout.proofs.first_invalid.Needs as need
 
 pub loop-at-again : need.loop-at-again
 loop-at-again c =

@@ -1,9 +1,9 @@
 use mathlib.Core.Path.{sym, ap, _∙_}
 use Rattle.std.proofs.shelf.Lists.{at-drop-all}
 use Rattle.std.specs.Orderings.{isNe}
-use Rattle.kinds.specs.Layout.{byFields}
-use Rattle.kinds.proofs.Fields.{fields-more, then-decided, then-equal}
-use Rattle.kinds.proofs.layout.compare_fields.Needs as need
+use Rattle.layout.specs.Layout.{byFields}
+use Rattle.layout.proofs.Fields.{fields-more, then-decided, then-equal}
+use Rattle.layout.proofs.compare_fields.Needs as need
 
 pub loop-field-again : need.loop-field-again
 loop-field-again c =

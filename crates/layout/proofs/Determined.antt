@@ -13,11 +13,11 @@ use Rattle.std.proofs.shelf.Tests.{false≢true, eqb-true, leb-true, ltb-true, 
 use Rattle.std.proofs.shelf.Ways.{decides-below-and}
 use Rattle.fields.proofs.Numbers.{le-number}
 use Rattle.fields.specs.Numbers.{Bytes, number, le}
-use Rattle.kinds.specs.Layout.{byFields, value, values}
-use Rattle.kinds.specs.Orders.{TotalOrder}
-use Rattle.kinds.specs.declared.layout.Field.{Field}
-use Rattle.kinds.specs.declared.layout.Field.the-variants.{Byte, Folded, Number}
-use Rattle.kinds.proofs.Comparisons.{total-by-numbers}
+use Rattle.layout.specs.Layout.{byFields, value, values}
+use Rattle.layout.specs.Orders.{TotalOrder}
+use Rattle.layout.specs.declared.Field.{Field}
+use Rattle.layout.specs.declared.Field.the-variants.{Byte, Folded, Number}
+use Rattle.layout.proofs.Comparisons.{total-by-numbers}
 
 -- the field has the byte at an offset; a folded byte tells less than the byte
 abbrev pub has : Field → ℕ → Bool

@@ -10,7 +10,7 @@ use Rattle.std.specs.Keys.{rank as compared}
 use Rattle.std.specs.Orderings.{reversed, thenBy}
 use Rattle.std.specs.declared.cmp.Ordering.{Ordering}
 use Rattle.std.specs.declared.cmp.Ordering.the-variants.{Less, Equal, Greater}
-use Rattle.kinds.specs.Orders.{TotalOrder, lexical}
+use Rattle.layout.specs.Orders.{TotalOrder, lexical}
 
 -- ---- two numbers
 

@@ -1,7 +1,7 @@
-// The fields of a message: reading them, comparing messages by them, and finding the first that is invalid.
+// The layout of messages in fields: reading them, comparing messages by them, and finding the first that is invalid.
 ghost use mathlib.Core.Path.{_≡_};
 ghost use Rattle.std.specs.Keys.{rank as compared};
-ghost use Rattle.kinds.specs.Layout.{byFields, byteAt, firstInvalid, lowered, numberAt, value as valued};
+ghost use Rattle.layout.specs.Layout.{byFields, byteAt, firstInvalid, lowered, numberAt, value as valued};
 use std::cmp::Ordering;
 
 // What two messages are compared by: a byte, a byte with A to Z read as a to z, or a number of four bytes, each at an
