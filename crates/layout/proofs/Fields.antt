@@ -7,9 +7,11 @@ use Prim.Native.Nat.{ℕ, zero, suc, _+_, _-_, _*_, _<_, min}
 use native.Mathlib.Omega.{arith}
 use lib.ListN.{length, getD, take, drop}
 use Rattle.std.proofs.shelf.Lists.{take-rest, drop-all, at-drop-more}
-use Rattle.std.proofs.shelf.Tests.{true≢false, false≢true, cases-lt}
+use Rattle.std.proofs.shelf.Tests.{true≢false, false≢true, cases-bool, cases-lt, cond-true, cond-false}
+use Rattle.std.specs.Options.{isSome}
 use Rattle.std.specs.Keys.{rank as compared}
 use Rattle.std.specs.Orderings.{isNe, thenBy}
+use Rattle.std.specs.shelf.Lists.{All}
 use Rattle.std.specs.declared.cmp.Ordering.{Ordering}
 use Rattle.std.specs.declared.cmp.Ordering.the-variants.{Less, Equal, Greater}
 use Rattle.std.specs.declared.option.Option.the-variants.{Some}
@@ -56,3 +58,11 @@ pub then-equal : (o p : Ordering) → isNe o ≡ false → thenBy o p ≡ p
 then-equal Less p h = absurd (true≢false h)
 then-equal Equal p h = refl
 then-equal Greater p h = absurd (true≢false h)
+
+-- no field is invalid: each test has passed
+pub tests-passed : (tests : List (ℕ × Bool)) → isSome (firstInvalid tests) ≡ false → All (λ test. test .1 ≡ true) tests
+tests-passed [] h = tt
+tests-passed (test ∷ tests) h =
+    ⊎-elim (λ passed. (passed, tests-passed tests (sym (ap isSome (cond-true (test .1) _ _ passed)) ∙ h)))
+    (λ failed. absurd (true≢false (sym (ap isSome (cond-false (test .1) _ _ failed)) ∙ h)))
+    (cases-bool (test .1))

@@ -1,0 +1,57 @@
+-- Encoding and decoding a paragraph are inverse to each other. Assumes nothing.
+use mathlib.Core.Path.{_≡_, refl, sym, ap, ap₂, _∙_}
+use mathlib.Core.Bool.{true, false, not, _&&_}
+use mathlib.Core.List.{List, [], _∷_, _++_}
+use Prim.Native.Nat.{ℕ, _+_, _^_, _<_, _≤_}
+use native.Mathlib.Omega.{arith}
+use lib.Dec.{eqb}
+use lib.ListN.{length, drop}
+use Rattle.std.proofs.shelf.Tests.{eq-eqb}
+use Rattle.std.specs.Options.{isSome, whenTrue}
+use Rattle.std.specs.declared.option.Option.{Option}
+use Rattle.std.specs.declared.option.Option.the-variants.{Some, None}
+use Rattle.fields.proofs.Numbers.{number-le}
+use Rattle.fields.specs.Numbers.{Bytes, le}
+use Rattle.layout.proofs.Fields.{tests-passed}
+use Rattle.layout.specs.Layout.{byteAt, numberAt}
+use Rattle.kinds.specs.Paragraphs.{paragraphInvalid}
+use Rattle.kinds.specs.Rules.{isOffice, isState, linesFit, textFits}
+use Rattle.messages.specs.Paragraph.{decoded, encoded, isMessage, read}
+use Rattle.messages.specs.States.{stateNumber, stateOf}
+use Rattle.messages.specs.declared.paragraph_message.Paragraph.{Paragraph}
+use Rattle.messages.proofs.Parts.{byte-before, number-before, number-last, number-of-state, state-of-number}
+
+pub decoded-message : (m : List ℕ) → length m ≡ 16 → isSome (paragraphInvalid m) ≡ false → decoded m ≡ Some (read m)
+decoded-message m len valid =
+    ap₂ (λ s t. whenTrue (s && not t) (read m)) (eq-eqb (length m) 16 len) valid
+
+read-encoded : (p : Paragraph) → p .place < 256 ^ 4 → p .stamp < 256 ^ 4 → p .text < 256 ^ 4 → read (encoded p) ≡ p
+read-encoded p place stamp text =
+    λ i.
+    record {
+      place = number-le 4 (p .place) place i;
+      origin = p .origin;
+      sender = p .sender;
+      state = state-of-number (p .state) i;
+      lines = p .lines;
+      stamp = number-le 4 (p .stamp) stamp i;
+      text = number-le 4 (p .text) text i;
+    }
+
+pub decoded-encoded : (p : Paragraph) → p .place < 256 ^ 4 → p .stamp < 256 ^ 4 → p .text < 256 ^ 4 → paragraphInvalid (encoded p) ≡ None → decoded (encoded p) ≡ Some p
+decoded-encoded p place stamp text valid =
+    decoded-message (encoded p) refl (ap isSome valid) ∙ ap Some (read-encoded p place stamp text)
+
+state-valid : (m : List ℕ) → isSome (paragraphInvalid m) ≡ false → isState (byteAt m 6) ≡ true
+state-valid m valid = tests-passed ((4, isOffice (byteAt m 4)) ∷ (5, isOffice (byteAt m 5)) ∷ (6, isState (byteAt m 6)) ∷ (7, linesFit (byteAt m 6) (byteAt m 7)) ∷ (12, textFits (byteAt m 6) (numberAt m 12)) ∷ []) valid .1 .1 .0
+
+pub encoded-read : (m : List ℕ) → Bytes m → length m ≡ 16 → isSome (paragraphInvalid m) ≡ false → encoded (read m) ≡ m
+encoded-read m bytes len valid =
+    let state = number-of-state (byteAt m 6) (state-valid m valid) in
+    let end = number-last m 12 bytes (omega arith) in
+    let stamp = ap (λ rest. le 4 (numberAt m 8) ++ rest) end ∙ number-before m 8 bytes (omega arith) in
+    let lines = ap (λ rest. byteAt m 7 ∷ rest) stamp ∙ byte-before m 7 (omega arith) in
+    let states = ap₂ _∷_ state lines ∙ byte-before m 6 (omega arith) in
+    let sender = ap (λ rest. byteAt m 5 ∷ rest) states ∙ byte-before m 5 (omega arith) in
+    let origin = ap (λ rest. byteAt m 4 ∷ rest) sender ∙ byte-before m 4 (omega arith) in
+    ap (λ rest. le 4 (numberAt m 0) ++ rest) origin ∙ number-before m 0 bytes (omega arith)

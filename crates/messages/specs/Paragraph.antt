@@ -1,0 +1,41 @@
+-- A typed paragraph and its message. Assumes nothing.
+use mathlib.Core.Path.{_≡_}
+use mathlib.Core.Bool.{Bool, cond, _&&_, not}
+use mathlib.Core.List.{List, [], _∷_, _++_}
+use Prim.Native.Nat.{ℕ}
+use lib.Dec.{eqb}
+use lib.ListN.{length}
+use Rattle.std.specs.Options.{isSome, whenTrue}
+use Rattle.std.specs.declared.option.Option.{Option}
+use Rattle.std.specs.declared.option.Option.the-variants.{Some, None}
+use Rattle.fields.specs.Numbers.{le}
+use Rattle.layout.specs.Layout.{byteAt, numberAt}
+use Rattle.kinds.specs.Paragraphs.{paragraphInvalid}
+use Rattle.messages.specs.States.{stateNumber, stateOf}
+use Rattle.messages.specs.declared.paragraph_message.Paragraph.{Paragraph}
+
+-- the message of a paragraph
+abbrev pub encoded : Paragraph → List ℕ
+encoded p =
+    le 4 (p .place) ++ (p .origin ∷ p .sender ∷ stateNumber (p .state) ∷ p .lines ∷ (le 4 (p .stamp) ++ le 4 (p .text)))
+
+-- what the fields of a message hold
+abbrev pub read : List ℕ → Paragraph
+read m =
+    record {
+      place = numberAt m 0;
+      origin = byteAt m 4;
+      sender = byteAt m 5;
+      state = stateOf (byteAt m 6);
+      lines = byteAt m 7;
+      stamp = numberAt m 8;
+      text = numberAt m 12;
+    }
+
+-- a message of the right length with no invalid field
+abbrev pub isMessage : List ℕ → Bool
+isMessage m = eqb (length m) 16 && not (isSome (paragraphInvalid m))
+
+-- the paragraph of a valid message
+abbrev pub decoded : List ℕ → Option Paragraph
+decoded m = whenTrue (isMessage m) (read m)
