@@ -14,16 +14,14 @@ use Rattle.fields.proofs.Numbers.{number-le}
 use Rattle.fields.specs.Numbers.{Bytes, le}
 use Rattle.layout.proofs.Fields.{tests-passed}
 use Rattle.layout.specs.Layout.{byteAt, numberAt}
-use Rattle.kinds.specs.Paragraphs.{paragraphInvalid}
+use Rattle.kinds.specs.Paragraphs.{paragraphInvalid, paragraphs}
 use Rattle.kinds.specs.Rules.{isOffice, isState, linesFit, textFits}
-use Rattle.messages.specs.Paragraph.{decoded, encoded, isMessage, read}
+use Rattle.messages.specs.Paragraph.{decoded, encoded, read}
+use Rattle.messages.specs.Messages.{isMessage}
 use Rattle.messages.specs.States.{stateNumber, stateOf}
 use Rattle.messages.specs.declared.paragraph_message.Paragraph.{Paragraph}
 use Rattle.messages.proofs.Parts.{byte-before, number-before, number-last, number-of-state, state-of-number}
-
-pub decoded-message : (m : List ℕ) → length m ≡ 16 → isSome (paragraphInvalid m) ≡ false → decoded m ≡ Some (read m)
-decoded-message m len valid =
-    ap₂ (λ s t. whenTrue (s && not t) (read m)) (eq-eqb (length m) 16 len) valid
+use Rattle.messages.proofs.Validity.{is-message, message-length, message-valid}
 
 read-encoded : (p : Paragraph) → p .place < 256 ^ 4 → p .stamp < 256 ^ 4 → p .text < 256 ^ 4 → read (encoded p) ≡ p
 read-encoded p place stamp text =
@@ -40,14 +38,16 @@ read-encoded p place stamp text =
 
 pub decoded-encoded : (p : Paragraph) → p .place < 256 ^ 4 → p .stamp < 256 ^ 4 → p .text < 256 ^ 4 → paragraphInvalid (encoded p) ≡ None → decoded (encoded p) ≡ Some p
 decoded-encoded p place stamp text valid =
-    decoded-message (encoded p) refl (ap isSome valid) ∙ ap Some (read-encoded p place stamp text)
+    ap (λ t. whenTrue t (read (encoded p))) (is-message paragraphs (encoded p) refl (ap isSome valid)) ∙
+    ap Some (read-encoded p place stamp text)
 
 state-valid : (m : List ℕ) → isSome (paragraphInvalid m) ≡ false → isState (byteAt m 6) ≡ true
 state-valid m valid = tests-passed ((4, isOffice (byteAt m 4)) ∷ (5, isOffice (byteAt m 5)) ∷ (6, isState (byteAt m 6)) ∷ (7, linesFit (byteAt m 6) (byteAt m 7)) ∷ (12, textFits (byteAt m 6) (numberAt m 12)) ∷ []) valid .1 .1 .0
 
-pub encoded-read : (m : List ℕ) → Bytes m → length m ≡ 16 → isSome (paragraphInvalid m) ≡ false → encoded (read m) ≡ m
-encoded-read m bytes len valid =
-    let state = number-of-state (byteAt m 6) (state-valid m valid) in
+pub encoded-read : (m : List ℕ) → Bytes m → isMessage paragraphs m ≡ true → encoded (read m) ≡ m
+encoded-read m bytes message =
+    let len = message-length paragraphs m message in
+    let state = number-of-state (byteAt m 6) (state-valid m (message-valid paragraphs m message)) in
     let end = number-last m 12 bytes (omega arith) in
     let stamp = ap (λ rest. le 4 (numberAt m 8) ++ rest) end ∙ number-before m 8 bytes (omega arith) in
     let lines = ap (λ rest. byteAt m 7 ∷ rest) stamp ∙ byte-before m 7 (omega arith) in

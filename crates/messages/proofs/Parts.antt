@@ -5,10 +5,10 @@ use mathlib.Core.List.{List, [], _∷_, _++_}
 use mathlib.Core.Logic.{⊎-elim}
 use Prim.Native.Nat.{ℕ, _+_, _/_, _%_, _<_, _≤_}
 use native.Mathlib.Omega.{arith}
-use lib.Dec.{eqb}
+use borrow.Rule.Slice.PartMut.{putMid}
 use lib.ListN.{length, getD, take, drop}
 use Rattle.std.proofs.shelf.Elements.{all-take, all-drop, all-from-getD}
-use Rattle.std.proofs.shelf.Lists.{append-nil, drop-all, drop-drop, drop-more, length-drop, length-take, take-append-drop}
+use Rattle.std.proofs.shelf.Lists.{append-nil, drop-all, drop-at, drop-drop, drop-more, getD-drop, length-drop, length-take, take-append-drop, take-at}
 use Rattle.std.proofs.shelf.Tests.{cond-true, cond-false, cases-bool, eqb-true, or-cases}
 use Rattle.fields.proofs.Numbers.{le-number}
 use Rattle.fields.specs.Numbers.{Bytes, le, number}
@@ -53,3 +53,16 @@ pub number-last : (m : List ℕ) (i : ℕ) → Bytes m → i + 4 ≡ length m �
 number-last m i bytes end =
     let none : drop (i + 4) m ≡ [] = drop-all (i + 4) m (omega arith) in
     sym (append-nil _) ∙ ap (λ rest. le 4 (numberAt m i) ++ rest) (sym none) ∙ number-before m i bytes (omega arith)
+
+-- the same field, counted from the start of a part
+pub number-within : (m : List ℕ) (n i : ℕ) → numberAt m (n + i) ≡ numberAt (drop n m) i
+number-within m n i = ap (λ part. number (take 4 part)) (sym (drop-drop i n m))
+
+pub byte-within : (m : List ℕ) (n i : ℕ) → byteAt m (n + i) ≡ byteAt (drop n m) i
+byte-within m n i = sym (getD-drop n m i 0)
+
+-- what is written over the last part of a list
+pub put-last : (front old new : List ℕ) (n k : ℕ) → length front ≡ n → length old ≡ k → putMid n k (front ++ old) new ≡ front ++ new
+put-last front old new n k len over =
+    let after : drop k (drop n (front ++ old)) ≡ [] = ap (drop k) (drop-at front old n len) ∙ drop-all k old (omega arith) in
+    ap₂ (λ first rest. first ++ (new ++ rest)) (take-at front old n len) after ∙ ap (λ rest. front ++ rest) (append-nil new)

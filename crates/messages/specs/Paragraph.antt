@@ -1,16 +1,12 @@
 -- A typed paragraph and its message. Assumes nothing.
-use mathlib.Core.Path.{_≡_}
-use mathlib.Core.Bool.{Bool, cond, _&&_, not}
 use mathlib.Core.List.{List, [], _∷_, _++_}
 use Prim.Native.Nat.{ℕ}
-use lib.Dec.{eqb}
-use lib.ListN.{length}
-use Rattle.std.specs.Options.{isSome, whenTrue}
+use Rattle.std.specs.Options.{whenTrue}
 use Rattle.std.specs.declared.option.Option.{Option}
-use Rattle.std.specs.declared.option.Option.the-variants.{Some, None}
 use Rattle.fields.specs.Numbers.{le}
 use Rattle.layout.specs.Layout.{byteAt, numberAt}
-use Rattle.kinds.specs.Paragraphs.{paragraphInvalid}
+use Rattle.kinds.specs.Paragraphs.{paragraphs}
+use Rattle.messages.specs.Messages.{isMessage}
 use Rattle.messages.specs.States.{stateNumber, stateOf}
 use Rattle.messages.specs.declared.paragraph_message.Paragraph.{Paragraph}
 
@@ -32,10 +28,6 @@ read m =
       text = numberAt m 12;
     }
 
--- a message of the right length with no invalid field
-abbrev pub isMessage : List ℕ → Bool
-isMessage m = eqb (length m) 16 && not (isSome (paragraphInvalid m))
-
 -- the paragraph of a valid message
 abbrev pub decoded : List ℕ → Option Paragraph
-decoded m = whenTrue (isMessage m) (read m)
+decoded m = whenTrue (isMessage paragraphs m) (read m)

@@ -2,11 +2,11 @@
 ghost use mathlib.Core.Path.{_≡_};
 ghost use Rattle.kinds.specs.Paragraphs.{paragraphInvalid};
 ghost use Rattle.std.specs.declared.option.Option.the-variants.{None, Some};
-ghost use Rattle.messages.specs.Paragraph.{decoded, encoded};
+ghost use Rattle.messages.specs.Paragraph.{decoded, encoded, read as fieldsOf};
 use crate::state::State;
 use crate::state::StateDebug;
 use crate::state::StatePartialEq;
-use kinds::EntryKind;
+use crate::valid::is_message;
 use kinds::Paragraphs;
 use kinds::ParagraphsKind;
 use layout::byte_at;
@@ -29,11 +29,36 @@ impl Paragraph {
         ensures value { λ r. ⌜ r ≡ encoded (now (self .entry)) ⌝ }
         ensures inverse { λ r. ⌜ (paragraphInvalid r ≡ None → decoded r ≡ Some (now (self .entry))) ⌝ }
     {
-        let Paragraph { place, origin, sender, state, lines, stamp, text } = *self;
+        let Paragraph {
+            place,
+            origin,
+            sender,
+            state,
+            lines,
+            stamp,
+            text,
+        } = *self;
         let [p0, p1, p2, p3] = place.to_le_bytes();
         let [s0, s1, s2, s3] = stamp.to_le_bytes();
         let [t0, t1, t2, t3] = text.to_le_bytes();
-        [p0, p1, p2, p3, origin, sender, state.number(), lines, s0, s1, s2, s3, t0, t1, t2, t3]
+        [
+            p0,
+            p1,
+            p2,
+            p3,
+            origin,
+            sender,
+            state.number(),
+            lines,
+            s0,
+            s1,
+            s2,
+            s3,
+            t0,
+            t1,
+            t2,
+            t3,
+        ]
     }
 
     // The paragraph of a valid message; none where the length is wrong or a field is invalid.
@@ -41,10 +66,18 @@ impl Paragraph {
         ensures value { λ r. ⌜ r ≡ decoded (now (message .entry)) ⌝ }
         ensures inverse { λ r. ⌜ ((p : Paragraph) → r ≡ Some p → encoded p ≡ now (message .entry)) ⌝ }
     {
-        if message.len() != Paragraphs::message_width() || Paragraphs::invalid_at(message).is_some() {
-            return None;
+        if is_message::<Paragraphs>(message) {
+            Some(Paragraph::read(message))
+        } else {
+            None
         }
-        Some(Paragraph {
+    }
+
+    // What the fields of a message hold.
+    fn read(message: &[u8]) -> Paragraph
+        ensures { λ r. ⌜ r ≡ fieldsOf (now (message .entry)) ⌝ }
+    {
+        Paragraph {
             place: number_at(message, 0),
             origin: byte_at(message, 4),
             sender: byte_at(message, 5),
@@ -52,6 +85,6 @@ impl Paragraph {
             lines: byte_at(message, 7),
             stamp: number_at(message, 8),
             text: number_at(message, 12),
-        })
+        }
     }
 }

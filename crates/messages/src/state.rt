@@ -20,7 +20,7 @@ impl State {
     }
 
     // The state with a number; a valid message has no number but 1 and 2.
-    pub fn numbered(number: u8) -> State
+    pub(crate) fn numbered(number: u8) -> State
         ensures { λ r. ⌜ r ≡ stateOf number ⌝ }
     {
         if number == 1 { State::Set } else { State::Cut }
