@@ -1,7 +1,7 @@
 -- The table follows its rule at all of its entries, by one test that is computed over the whole table. Assumes nothing.
 use mathlib.Core.Path.{_≡_, refl}
 use mathlib.Core.Bool.{Bool, true, _&&_, _||_}
-use mathlib.Core.Logic.{_⊎_, inl, inr, ⊎-elim}
+use mathlib.Core.Logic.{inl, inr, ⊎-elim}
 use Prim.Native.Nat.{ℕ, zero, suc, _+_, _*_, _%_, _^_, _<_}
 use lib.Dec.{ltb, eqb}
 use Rattle.std.proofs.shelf.Tests.{ltb-true, eqb-true, and-parts, or-cases}

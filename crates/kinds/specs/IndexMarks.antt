@@ -1,6 +1,6 @@
 -- The kind of index marks. A message has: term 0 to 15, place 16 to 19, origin office 20, sender office 21, state 22,
 -- emphasis 23, stamp 24 to 27. Assumes nothing.
-use mathlib.Core.Bool.{cond}
+use mathlib.Core.Bool.{Bool, cond}
 use mathlib.Core.List.{List, [], _∷_, _++_, map}
 use Prim.Native.Nat.{ℕ}
 use lib.ListN.{take}
@@ -11,11 +11,18 @@ use Rattle.kinds.specs.Rules.{isOffice, isState, isSet, isTerm, emphasisFits}
 use Rattle.layout.specs.declared.Field.{Field}
 use Rattle.layout.specs.declared.Field.the-variants.{Byte, Folded, Number}
 
--- any place and any stamp is valid
+-- each field that may be invalid, by its offset, and whether it is valid; any place and any stamp is
+abbrev pub markTests : List ℕ → List (ℕ × Bool)
+markTests m =
+    (0, isTerm (take 16 m)) ∷
+    (20, isOffice (byteAt m 20)) ∷
+    (21, isOffice (byteAt m 21)) ∷
+    (22, isState (byteAt m 22)) ∷
+    (23, emphasisFits (byteAt m 22) (byteAt m 23)) ∷
+    []
+
 abbrev pub markInvalid : List ℕ → Option ℕ
-markInvalid m =
-    firstInvalid
-    ((0, isTerm (take 16 m)) ∷ (20, isOffice (byteAt m 20)) ∷ (21, isOffice (byteAt m 21)) ∷ (22, isState (byteAt m 22)) ∷ (23, emphasisFits (byteAt m 22) (byteAt m 23)) ∷ [])
+markInvalid m = firstInvalid (markTests m)
 
 abbrev pub termOffsets : List ℕ
 termOffsets = 0 ∷ 1 ∷ 2 ∷ 3 ∷ 4 ∷ 5 ∷ 6 ∷ 7 ∷ 8 ∷ 9 ∷ 10 ∷ 11 ∷ 12 ∷ 13 ∷ 14 ∷ 15 ∷ []

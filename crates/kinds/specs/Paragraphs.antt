@@ -1,5 +1,6 @@
 -- The kind of paragraphs. A message has: place 0 to 3, origin office 4, sender office 5, state 6, lines 7, stamp 8 to 11,
 -- text number 12 to 15. Assumes nothing.
+use mathlib.Core.Bool.{Bool}
 use mathlib.Core.List.{List, [], _∷_}
 use Prim.Native.Nat.{ℕ}
 use Rattle.std.specs.declared.option.Option.{Option}
@@ -9,11 +10,18 @@ use Rattle.kinds.specs.Rules.{isOffice, isState, linesFit, textFits}
 use Rattle.layout.specs.declared.Field.{Field}
 use Rattle.layout.specs.declared.Field.the-variants.{Byte, Number}
 
--- any place and any stamp is valid
+-- each field that may be invalid, by its offset, and whether it is valid; any place and any stamp is
+abbrev pub paragraphTests : List ℕ → List (ℕ × Bool)
+paragraphTests m =
+    (4, isOffice (byteAt m 4)) ∷
+    (5, isOffice (byteAt m 5)) ∷
+    (6, isState (byteAt m 6)) ∷
+    (7, linesFit (byteAt m 6) (byteAt m 7)) ∷
+    (12, textFits (byteAt m 6) (numberAt m 12)) ∷
+    []
+
 abbrev pub paragraphInvalid : List ℕ → Option ℕ
-paragraphInvalid m =
-    firstInvalid
-    ((4, isOffice (byteAt m 4)) ∷ (5, isOffice (byteAt m 5)) ∷ (6, isState (byteAt m 6)) ∷ (7, linesFit (byteAt m 6) (byteAt m 7)) ∷ (12, textFits (byteAt m 6) (numberAt m 12)) ∷ [])
+paragraphInvalid m = firstInvalid (paragraphTests m)
 
 -- place, then origin
 abbrev pub paragraphKey : List Field

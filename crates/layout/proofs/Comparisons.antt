@@ -93,7 +93,8 @@ transitive-lexical (x ∷ xs) (y ∷ ys) (z ∷ zs) h k =
     (numbers-less y z (lexical ys zs) k))
     (numbers-less x y (lexical xs ys) h)
 
-pub total-by-numbers : {X : Type 0} (D : X → Type 0) (numbers : X → List ℕ) → ((a b : X) → D a → D b → numbers a ≡ numbers b → a ≡ b) → TotalOrder D (λ a b. lexical (numbers a) (numbers b))
+pub total-by-numbers : {X : Type 0} (D : X → Type 0) (numbers : X → List ℕ) →
+    ((a b : X) → D a → D b → numbers a ≡ numbers b → a ≡ b) → TotalOrder D (λ a b. lexical (numbers a) (numbers b))
 total-by-numbers D numbers determine =
     record {
       same = λ a da. same-lexical (numbers a);

@@ -1,8 +1,8 @@
 -- Fields that together take in every byte determine the bytes, so an order by them is total. Assumes nothing.
-use mathlib.Core.Path.{_≡_, refl, sym, ap, ap₂, _∙_, subst}
+use mathlib.Core.Path.{_≡_, refl, sym, ap, ap₂, _∙_}
 use mathlib.Core.Bool.{Bool, true, false, _&&_, _||_}
 use mathlib.Core.List.{List, [], _∷_}
-use mathlib.Core.Logic.{_⊎_, ⊎-elim}
+use mathlib.Core.Logic.{⊎-elim}
 use Prim.Native.Nat.{ℕ, zero, suc, _+_, _-_, _<_, _≤_}
 use native.Mathlib.Omega.{arith}
 use lib.Dec.{eqb, leb, ltb}
@@ -63,7 +63,8 @@ module _ (a b : List ℕ) (ha : Bytes a) (hb : Bytes b) (len : length a ≡ leng
       let rest : values fields a ≡ values fields b = cc in
       ⊎-elim (same-at field i first) (same-of fields i rest) (or-cases (has field i) (have fields i) t)
 
-  pub determined : (fields : List Field) (known : ℕ) → allCovered fields known (length a) ≡ true → take known a ≡ take known b → values fields a ≡ values fields b → a ≡ b
+  pub determined : (fields : List Field) (known : ℕ) → allCovered fields known (length a) ≡ true →
+      take known a ≡ take known b → values fields a ≡ values fields b → a ≡ b
   determined fields known t front e =
       let cover = decides-below-and (covered fields known) (λ i. covered fields known i ≡ true) (allCovered fields known) (λ i. (λ p. p, λ p. p)) refl (λ n. refl) (length a) .0 t in
       ext-getD 0 a b len
@@ -76,13 +77,15 @@ module _ (a b : List ℕ) (ha : Bytes a) (hb : Bytes b) (len : length a ≡ leng
       (or-cases (ltb i known) (have fields i) (cover i lt)))
 
 -- an order of keys by fields that take in all of a key
-pub total-keys : (fields : List Field) (width : ℕ) → allCovered fields 0 width ≡ true → TotalOrder (λ key. Bytes key × (length key ≡ width)) (byFields fields)
+pub total-keys : (fields : List Field) (width : ℕ) → allCovered fields 0 width ≡ true →
+    TotalOrder (λ key. Bytes key × (length key ≡ width)) (byFields fields)
 total-keys fields width t =
     total-by-numbers _ (values fields)
     (λ a b ha hb e. determined a b (ha .0) (hb .0) (ha .1 ∙ sym (hb .1)) fields 0 (ap (allCovered fields 0) (ha .1) ∙ t) refl e)
 
 -- an order of messages with one key, by fields that take in all bytes after the key
-pub total-ranks : (fields : List Field) (keyWidth width : ℕ) → allCovered fields keyWidth width ≡ true → (key : List ℕ) → TotalOrder (λ message. Bytes message × (length message ≡ width) × (take keyWidth message ≡ key)) (byFields fields)
+pub total-ranks : (fields : List Field) (keyWidth width : ℕ) → allCovered fields keyWidth width ≡ true →
+    (key : List ℕ) → TotalOrder (λ message. Bytes message × (length message ≡ width) × (take keyWidth message ≡ key)) (byFields fields)
 total-ranks fields keyWidth width t key =
     total-by-numbers _ (values fields)
     (λ a b ha hb e.

@@ -43,10 +43,13 @@ number-four (a ∷ b ∷ []) = omega arith
 number-four (a ∷ b ∷ c ∷ []) = omega arith
 number-four (a ∷ b ∷ c ∷ d ∷ bs) = omega arith
 
-pub fields-more : (fields : List Field) (a b : List ℕ) (i : ℕ) → i < length fields → byFields (drop i fields) a b ≡ thenBy (compared (value a (getD fields i (Byte 0))) (value b (getD fields i (Byte 0)))) (byFields (drop (i + 1) fields) a b)
+pub fields-more : (fields : List Field) (a b : List ℕ) (i : ℕ) → i < length fields →
+    byFields (drop i fields) a b ≡
+    thenBy (compared (value a (getD fields i (Byte 0))) (value b (getD fields i (Byte 0)))) (byFields (drop (i + 1) fields) a b)
 fields-more fields a b i lt = at-drop-more (λ fs. byFields fs a b) fields i (Byte 0) lt
 
-pub tests-more : (tests : List (ℕ × Bool)) (i : ℕ) → i < length tests → firstInvalid (drop i tests) ≡ cond (getD tests i (0, false) .1) (firstInvalid (drop (i + 1) tests)) (Some (getD tests i (0, false) .0))
+pub tests-more : (tests : List (ℕ × Bool)) (i : ℕ) → i < length tests →
+    firstInvalid (drop i tests) ≡ cond (getD tests i (0, false) .1) (firstInvalid (drop (i + 1) tests)) (Some (getD tests i (0, false) .0))
 tests-more tests i lt = at-drop-more firstInvalid tests i (0, false) lt
 
 pub then-decided : (o p : Ordering) → isNe o ≡ true → thenBy o p ≡ o

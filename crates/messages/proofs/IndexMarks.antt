@@ -1,23 +1,22 @@
 -- Encoding and decoding an index mark are inverse to each other. Assumes nothing.
-use mathlib.Core.Path.{_≡_, refl, sym, ap, ap₂, _∙_}
-use mathlib.Core.Bool.{true, false, not, _&&_}
-use mathlib.Core.List.{List, [], _∷_, _++_}
+use mathlib.Core.Path.{_≡_, ap, ap₂, _∙_}
+use mathlib.Core.Bool.{true, false}
+use mathlib.Core.List.{List, _∷_, _++_}
 use Prim.Native.Nat.{ℕ, _+_, _^_, _<_}
 use native.Mathlib.Omega.{arith}
 use lib.ListN.{length, take, drop}
 use Rattle.std.proofs.shelf.Lists.{drop-at, length-append, take-append-drop, take-at}
-use Rattle.std.proofs.shelf.Tests.{eq-eqb}
 use Rattle.std.specs.Options.{isSome, whenTrue}
 use Rattle.std.specs.declared.option.Option.the-variants.{Some, None}
 use Rattle.fields.proofs.Numbers.{number-le}
 use Rattle.fields.specs.Numbers.{Bytes, le}
 use Rattle.layout.proofs.Fields.{tests-passed}
 use Rattle.layout.specs.Layout.{byteAt, numberAt}
-use Rattle.kinds.specs.IndexMarks.{markInvalid, indexMarks}
-use Rattle.kinds.specs.Rules.{isOffice, isState, isTerm, emphasisFits}
+use Rattle.kinds.specs.IndexMarks.{markInvalid, markTests, indexMarks}
+use Rattle.kinds.specs.Rules.{isState}
 use Rattle.messages.specs.IndexMark.{afterTerm, decoded, encoded, read}
 use Rattle.messages.specs.Messages.{isMessage}
-use Rattle.messages.specs.States.{stateNumber, stateOf}
+use Rattle.messages.specs.States.{stateOf}
 use Rattle.messages.specs.declared.mark_message.IndexMark.{IndexMark}
 use Rattle.messages.proofs.Parts.{byte-before, byte-within, number-before, number-last, number-of-state, number-within, state-of-number}
 use Rattle.messages.proofs.Validity.{is-message, message-length, message-valid}
@@ -55,8 +54,7 @@ module _ (k : IndexMark) (len : length (k .term) ≡ 16) where
       ap Some (read-encoded place stamp)
 
 state-valid : (m : List ℕ) → isSome (markInvalid m) ≡ false → isState (byteAt m 22) ≡ true
-state-valid m valid =
-    tests-passed ((0, isTerm (take 16 m)) ∷ (20, isOffice (byteAt m 20)) ∷ (21, isOffice (byteAt m 21)) ∷ (22, isState (byteAt m 22)) ∷ (23, emphasisFits (byteAt m 22) (byteAt m 23)) ∷ []) valid .1 .1 .1 .0
+state-valid m valid = tests-passed (markTests m) valid .1 .1 .1 .0
 
 pub encoded-read : (m : List ℕ) → Bytes m → isMessage indexMarks m ≡ true → encoded (read m) ≡ m
 encoded-read m bytes message =

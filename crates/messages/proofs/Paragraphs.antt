@@ -1,24 +1,19 @@
 -- Encoding and decoding a paragraph are inverse to each other. Assumes nothing.
-use mathlib.Core.Path.{_≡_, refl, sym, ap, ap₂, _∙_}
-use mathlib.Core.Bool.{true, false, not, _&&_}
-use mathlib.Core.List.{List, [], _∷_, _++_}
-use Prim.Native.Nat.{ℕ, _+_, _^_, _<_, _≤_}
+use mathlib.Core.Path.{_≡_, refl, ap, ap₂, _∙_}
+use mathlib.Core.Bool.{true, false}
+use mathlib.Core.List.{List, _∷_, _++_}
+use Prim.Native.Nat.{ℕ, _^_, _<_}
 use native.Mathlib.Omega.{arith}
-use lib.Dec.{eqb}
-use lib.ListN.{length, drop}
-use Rattle.std.proofs.shelf.Tests.{eq-eqb}
 use Rattle.std.specs.Options.{isSome, whenTrue}
-use Rattle.std.specs.declared.option.Option.{Option}
 use Rattle.std.specs.declared.option.Option.the-variants.{Some, None}
 use Rattle.fields.proofs.Numbers.{number-le}
 use Rattle.fields.specs.Numbers.{Bytes, le}
 use Rattle.layout.proofs.Fields.{tests-passed}
 use Rattle.layout.specs.Layout.{byteAt, numberAt}
-use Rattle.kinds.specs.Paragraphs.{paragraphInvalid, paragraphs}
-use Rattle.kinds.specs.Rules.{isOffice, isState, linesFit, textFits}
+use Rattle.kinds.specs.Paragraphs.{paragraphInvalid, paragraphTests, paragraphs}
+use Rattle.kinds.specs.Rules.{isState}
 use Rattle.messages.specs.Paragraph.{decoded, encoded, read}
 use Rattle.messages.specs.Messages.{isMessage}
-use Rattle.messages.specs.States.{stateNumber, stateOf}
 use Rattle.messages.specs.declared.paragraph_message.Paragraph.{Paragraph}
 use Rattle.messages.proofs.Parts.{byte-before, number-before, number-last, number-of-state, state-of-number}
 use Rattle.messages.proofs.Validity.{is-message, message-length, message-valid}
@@ -36,13 +31,14 @@ read-encoded p place stamp text =
       text = number-le 4 (p .text) text i;
     }
 
-pub decoded-encoded : (p : Paragraph) → p .place < 256 ^ 4 → p .stamp < 256 ^ 4 → p .text < 256 ^ 4 → paragraphInvalid (encoded p) ≡ None → decoded (encoded p) ≡ Some p
+pub decoded-encoded : (p : Paragraph) → p .place < 256 ^ 4 → p .stamp < 256 ^ 4 → p .text < 256 ^ 4 →
+    paragraphInvalid (encoded p) ≡ None → decoded (encoded p) ≡ Some p
 decoded-encoded p place stamp text valid =
     ap (λ t. whenTrue t (read (encoded p))) (is-message paragraphs (encoded p) refl (ap isSome valid)) ∙
     ap Some (read-encoded p place stamp text)
 
 state-valid : (m : List ℕ) → isSome (paragraphInvalid m) ≡ false → isState (byteAt m 6) ≡ true
-state-valid m valid = tests-passed ((4, isOffice (byteAt m 4)) ∷ (5, isOffice (byteAt m 5)) ∷ (6, isState (byteAt m 6)) ∷ (7, linesFit (byteAt m 6) (byteAt m 7)) ∷ (12, textFits (byteAt m 6) (numberAt m 12)) ∷ []) valid .1 .1 .0
+state-valid m valid = tests-passed (paragraphTests m) valid .1 .1 .0
 
 pub encoded-read : (m : List ℕ) → Bytes m → isMessage paragraphs m ≡ true → encoded (read m) ≡ m
 encoded-read m bytes message =

@@ -1,6 +1,5 @@
-use mathlib.Core.Path.{_≡_, ap, _∙_}
+use mathlib.Core.Path.{ap, _∙_}
 use native.Mathlib.Omega.{arith}
-use Rattle.std.proofs.shelf.Lists.{take-rest}
 use lib.ListN.{take}
 use Rattle.fields.specs.Numbers.{number}
 use Rattle.layout.proofs.Fields.{number-four, rest-from}

@@ -1,4 +1,4 @@
-use mathlib.Core.Path.{_≡_, sym}
+use mathlib.Core.Path.{sym}
 use Rattle.std.proofs.shelf.Elements.{all-from-getD}
 use Rattle.fields.specs.Numbers.{Bytes}
 use Rattle.kinds.specs.Paragraphs.{paragraphs}
