@@ -27,7 +27,7 @@ markInvalid m = firstInvalid (markTests m)
 abbrev pub termOffsets : List ℕ
 termOffsets = 0 ∷ 1 ∷ 2 ∷ 3 ∷ 4 ∷ 5 ∷ 6 ∷ 7 ∷ 8 ∷ 9 ∷ 10 ∷ 11 ∷ 12 ∷ 13 ∷ 14 ∷ 15 ∷ []
 
--- the sixteen term bytes with A to Z read as a to z, then the bytes themselves, then place, then origin
+-- the terms without regard to case, then as they are, then place, then origin
 abbrev pub markKey : List Field
 markKey = map Folded termOffsets ++ (map Byte termOffsets ++ (Number 16 ∷ Byte 20 ∷ []))
 

@@ -2,7 +2,7 @@
 use mathlib.Core.Path.{_≡_, ap, ap₂, _∙_}
 use mathlib.Core.Bool.{true, false}
 use mathlib.Core.List.{List, _∷_, _++_}
-use Prim.Native.Nat.{ℕ, _+_, _^_, _<_}
+use Prim.Native.Nat.{ℕ, _+_}
 use native.Mathlib.Omega.{arith}
 use lib.ListN.{length, take, drop}
 use Rattle.std.proofs.shelf.Lists.{drop-at, length-append, take-append-drop, take-at}
@@ -14,16 +14,16 @@ use Rattle.layout.proofs.Fields.{tests-passed}
 use Rattle.layout.specs.Layout.{byteAt, numberAt}
 use Rattle.kinds.specs.IndexMarks.{markInvalid, markTests, indexMarks}
 use Rattle.kinds.specs.Rules.{isState}
-use Rattle.messages.specs.IndexMark.{afterTerm, decoded, encoded, read}
+use Rattle.messages.specs.IndexMark.{Narrow, afterTerm, decoded, encoded, read}
 use Rattle.messages.specs.Messages.{isMessage}
 use Rattle.messages.specs.States.{stateOf}
 use Rattle.messages.specs.declared.mark_message.IndexMark.{IndexMark}
 use Rattle.messages.proofs.Parts.{byte-before, byte-within, number-before, number-last, number-of-state, number-within, state-of-number}
 use Rattle.messages.proofs.Validity.{is-message, message-length, message-valid}
 
-module _ (k : IndexMark) (len : length (k .term) ≡ 16) where
+module _ (k : IndexMark) (narrow : Narrow k) where
   after-term : drop 16 (encoded k) ≡ afterTerm k
-  after-term = drop-at (k .term) (afterTerm k) 16 len
+  after-term = drop-at (k .term) (afterTerm k) 16 (narrow .term)
 
   byte-after : (i : ℕ) → byteAt (encoded k) (16 + i) ≡ byteAt (afterTerm k) i
   byte-after i = byte-within (encoded k) 16 i ∙ ap (λ rest. byteAt rest i) after-term
@@ -31,14 +31,14 @@ module _ (k : IndexMark) (len : length (k .term) ≡ 16) where
   number-after : (i : ℕ) → numberAt (encoded k) (16 + i) ≡ numberAt (afterTerm k) i
   number-after i = number-within (encoded k) 16 i ∙ ap (λ rest. numberAt rest i) after-term
 
-  read-encoded : k .place < 256 ^ 4 → k .stamp < 256 ^ 4 → read (encoded k) ≡ k
-  read-encoded place stamp =
-      let places : numberAt (encoded k) 16 ≡ k .place = number-after 0 ∙ number-le 4 (k .place) place in
-      let stamps : numberAt (encoded k) 24 ≡ k .stamp = number-after 8 ∙ number-le 4 (k .stamp) stamp in
+  read-encoded : read (encoded k) ≡ k
+  read-encoded =
+      let places : numberAt (encoded k) 16 ≡ k .place = number-after 0 ∙ number-le 4 (k .place) (narrow .place) in
+      let stamps : numberAt (encoded k) 24 ≡ k .stamp = number-after 8 ∙ number-le 4 (k .stamp) (narrow .stamp) in
       let states : stateOf (byteAt (encoded k) 22) ≡ k .state = ap stateOf (byte-after 6) ∙ state-of-number (k .state) in
       λ i.
       record {
-        term = take-at (k .term) (afterTerm k) 16 len i;
+        term = take-at (k .term) (afterTerm k) 16 (narrow .term) i;
         place = places i;
         origin = byte-after 4 i;
         sender = byte-after 5 i;
@@ -47,11 +47,11 @@ module _ (k : IndexMark) (len : length (k .term) ≡ 16) where
         stamp = stamps i;
       }
 
-  pub decoded-encoded : k .place < 256 ^ 4 → k .stamp < 256 ^ 4 → markInvalid (encoded k) ≡ None → decoded (encoded k) ≡ Some k
-  decoded-encoded place stamp valid =
-      let wide : length (encoded k) ≡ 28 = length-append (k .term) (afterTerm k) ∙ ap (λ n. n + 12) len in
+  pub decoded-encoded : markInvalid (encoded k) ≡ None → decoded (encoded k) ≡ Some k
+  decoded-encoded valid =
+      let wide : length (encoded k) ≡ 28 = length-append (k .term) (afterTerm k) ∙ ap (λ n. n + 12) (narrow .term) in
       ap (λ t. whenTrue t (read (encoded k))) (is-message indexMarks (encoded k) wide (ap isSome valid)) ∙
-      ap Some (read-encoded place stamp)
+      ap Some read-encoded
 
 state-valid : (m : List ℕ) → isSome (markInvalid m) ≡ false → isState (byteAt m 22) ≡ true
 state-valid m valid = tests-passed (markTests m) valid .1 .1 .1 .0

@@ -2,7 +2,7 @@
 use mathlib.Core.Path.{_≡_, refl, ap, ap₂, _∙_}
 use mathlib.Core.Bool.{true, false}
 use mathlib.Core.List.{List, _∷_, _++_}
-use Prim.Native.Nat.{ℕ, _^_, _<_}
+use Prim.Native.Nat.{ℕ}
 use native.Mathlib.Omega.{arith}
 use Rattle.std.specs.Options.{isSome, whenTrue}
 use Rattle.std.specs.declared.option.Option.the-variants.{Some, None}
@@ -12,30 +12,29 @@ use Rattle.layout.proofs.Fields.{tests-passed}
 use Rattle.layout.specs.Layout.{byteAt, numberAt}
 use Rattle.kinds.specs.Paragraphs.{paragraphInvalid, paragraphTests, paragraphs}
 use Rattle.kinds.specs.Rules.{isState}
-use Rattle.messages.specs.Paragraph.{decoded, encoded, read}
+use Rattle.messages.specs.Paragraph.{Narrow, decoded, encoded, read}
 use Rattle.messages.specs.Messages.{isMessage}
 use Rattle.messages.specs.declared.paragraph_message.Paragraph.{Paragraph}
 use Rattle.messages.proofs.Parts.{byte-before, number-before, number-last, number-of-state, state-of-number}
 use Rattle.messages.proofs.Validity.{is-message, message-length, message-valid}
 
-read-encoded : (p : Paragraph) → p .place < 256 ^ 4 → p .stamp < 256 ^ 4 → p .text < 256 ^ 4 → read (encoded p) ≡ p
-read-encoded p place stamp text =
+read-encoded : (p : Paragraph) → Narrow p → read (encoded p) ≡ p
+read-encoded p narrow =
     λ i.
     record {
-      place = number-le 4 (p .place) place i;
+      place = number-le 4 (p .place) (narrow .place) i;
       origin = p .origin;
       sender = p .sender;
       state = state-of-number (p .state) i;
       lines = p .lines;
-      stamp = number-le 4 (p .stamp) stamp i;
-      text = number-le 4 (p .text) text i;
+      stamp = number-le 4 (p .stamp) (narrow .stamp) i;
+      text = number-le 4 (p .text) (narrow .text) i;
     }
 
-pub decoded-encoded : (p : Paragraph) → p .place < 256 ^ 4 → p .stamp < 256 ^ 4 → p .text < 256 ^ 4 →
-    paragraphInvalid (encoded p) ≡ None → decoded (encoded p) ≡ Some p
-decoded-encoded p place stamp text valid =
+pub decoded-encoded : (p : Paragraph) → Narrow p → paragraphInvalid (encoded p) ≡ None → decoded (encoded p) ≡ Some p
+decoded-encoded p narrow valid =
     ap (λ t. whenTrue t (read (encoded p))) (is-message paragraphs (encoded p) refl (ap isSome valid)) ∙
-    ap Some (read-encoded p place stamp text)
+    ap Some (read-encoded p narrow)
 
 state-valid : (m : List ℕ) → isSome (paragraphInvalid m) ≡ false → isState (byteAt m 6) ≡ true
 state-valid m valid = tests-passed (paragraphTests m) valid .1 .1 .0

@@ -1,7 +1,8 @@
 -- A typed index mark and its message. Assumes nothing.
+use mathlib.Core.Path.{_≡_}
 use mathlib.Core.List.{List, _∷_, _++_}
-use Prim.Native.Nat.{ℕ}
-use lib.ListN.{take}
+use Prim.Native.Nat.{ℕ, _^_, _<_}
+use lib.ListN.{length, take}
 use Rattle.std.specs.Options.{whenTrue}
 use Rattle.std.specs.declared.option.Option.{Option}
 use Rattle.fields.specs.Numbers.{le}
@@ -10,6 +11,12 @@ use Rattle.kinds.specs.IndexMarks.{indexMarks}
 use Rattle.messages.specs.Messages.{isMessage}
 use Rattle.messages.specs.States.{stateNumber, stateOf}
 use Rattle.messages.specs.declared.mark_message.IndexMark.{IndexMark}
+
+-- the term has sixteen bytes, and the numbers no more than four
+pub record Narrow (k : IndexMark) : Type 0 where
+  pub term : length (k .term) ≡ 16
+  pub place : k .place < 2 ^ 32
+  pub stamp : k .stamp < 2 ^ 32
 
 -- what follows the term in the message of a mark
 abbrev pub afterTerm : IndexMark → List ℕ

@@ -1,6 +1,6 @@
 -- A typed paragraph and its message. Assumes nothing.
 use mathlib.Core.List.{List, _∷_, _++_}
-use Prim.Native.Nat.{ℕ}
+use Prim.Native.Nat.{ℕ, _^_, _<_}
 use Rattle.std.specs.Options.{whenTrue}
 use Rattle.std.specs.declared.option.Option.{Option}
 use Rattle.fields.specs.Numbers.{le}
@@ -9,6 +9,12 @@ use Rattle.kinds.specs.Paragraphs.{paragraphs}
 use Rattle.messages.specs.Messages.{isMessage}
 use Rattle.messages.specs.States.{stateNumber, stateOf}
 use Rattle.messages.specs.declared.paragraph_message.Paragraph.{Paragraph}
+
+-- the numbers have no more than four bytes
+pub record Narrow (p : Paragraph) : Type 0 where
+  pub place : p .place < 2 ^ 32
+  pub stamp : p .stamp < 2 ^ 32
+  pub text : p .text < 2 ^ 32
 
 -- the message of a paragraph
 abbrev pub encoded : Paragraph → List ℕ

@@ -1,10 +1,12 @@
 // An index mark as a typed value.
 ghost use lib.ListN.{length};
+ghost use mathlib.Core.List.{_++_};
 ghost use mathlib.Core.Path.{_≡_};
 ghost use Prim.Native.Nat.{_≤_};
 ghost use Rattle.kinds.specs.IndexMarks.{markInvalid};
 ghost use Rattle.std.specs.declared.option.Option.the-variants.{None, Some};
-ghost use Rattle.messages.specs.IndexMark.{decoded, encoded, read as fieldsOf};
+ghost use Rattle.messages.specs.IndexMark.{Narrow, decoded, encoded, read as fieldsOf};
+use crate::numbers::le_bytes;
 use crate::state::State;
 use crate::state::StateDebug;
 use crate::valid::is_message;
@@ -31,6 +33,14 @@ impl IndexMark {
         ensures value { λ r. ⌜ r ≡ encoded (now (self .entry)) ⌝ }
         ensures inverse { λ r. ⌜ (markInvalid r ≡ None → decoded r ≡ Some (now (self .entry))) ⌝ }
     {
+        self.bytes()
+    }
+
+    // The fields one after the other.
+    fn bytes(&self) -> [u8; 28]
+        ensures value { λ r. ⌜ r ≡ encoded (now (self .entry)) ⌝ }
+        ensures narrow { λ _. ⌜ Narrow (now (self .entry)) ⌝ }
+    {
         let IndexMark {
             term,
             place,
@@ -40,26 +50,25 @@ impl IndexMark {
             emphasis,
             stamp,
         } = *self;
-        let [p0, p1, p2, p3] = place.to_le_bytes();
-        let [s0, s1, s2, s3] = stamp.to_le_bytes();
-        let rest = [
-            p0,
-            p1,
-            p2,
-            p3,
-            origin,
-            sender,
-            state.number(),
-            emphasis,
-            s0,
-            s1,
-            s2,
-            s3,
-        ];
-        let mut message = [0; 28];
-        message[0..16].copy_from_slice(&term);
-        message[16..28].copy_from_slice(&rest);
-        message
+        let [p0, p1, p2, p3] = le_bytes(place);
+        let [s0, s1, s2, s3] = le_bytes(stamp);
+        joined(
+            &term,
+            &[
+                p0,
+                p1,
+                p2,
+                p3,
+                origin,
+                sender,
+                state.number(),
+                emphasis,
+                s0,
+                s1,
+                s2,
+                s3,
+            ],
+        )
     }
 
     // The mark of a valid message; none where the length is wrong or a field is invalid.
@@ -91,4 +100,15 @@ impl IndexMark {
             stamp: number_at(message, 24),
         }
     }
+}
+
+// A term and what follows it.
+fn joined(term: &[u8; 16], rest: &[u8; 12]) -> [u8; 28]
+    ensures value { λ r. ⌜ r ≡ now (term .entry) ++ now (rest .entry) ⌝ }
+    ensures width { λ _. ⌜ length (now (term .entry)) ≡ 16 ⌝ }
+{
+    let mut message = [0; 28];
+    message[0..16].copy_from_slice(term);
+    message[16..28].copy_from_slice(rest);
+    message
 }

@@ -2,7 +2,8 @@
 ghost use mathlib.Core.Path.{_≡_};
 ghost use Rattle.kinds.specs.Paragraphs.{paragraphInvalid};
 ghost use Rattle.std.specs.declared.option.Option.the-variants.{None, Some};
-ghost use Rattle.messages.specs.Paragraph.{decoded, encoded, read as fieldsOf};
+ghost use Rattle.messages.specs.Paragraph.{Narrow, decoded, encoded, read as fieldsOf};
+use crate::numbers::le_bytes;
 use crate::state::State;
 use crate::state::StateDebug;
 use crate::state::StatePartialEq;
@@ -29,6 +30,14 @@ impl Paragraph {
         ensures value { λ r. ⌜ r ≡ encoded (now (self .entry)) ⌝ }
         ensures inverse { λ r. ⌜ (paragraphInvalid r ≡ None → decoded r ≡ Some (now (self .entry))) ⌝ }
     {
+        self.bytes()
+    }
+
+    // The fields one after the other.
+    fn bytes(&self) -> [u8; 16]
+        ensures value { λ r. ⌜ r ≡ encoded (now (self .entry)) ⌝ }
+        ensures narrow { λ _. ⌜ Narrow (now (self .entry)) ⌝ }
+    {
         let Paragraph {
             place,
             origin,
@@ -38,9 +47,9 @@ impl Paragraph {
             stamp,
             text,
         } = *self;
-        let [p0, p1, p2, p3] = place.to_le_bytes();
-        let [s0, s1, s2, s3] = stamp.to_le_bytes();
-        let [t0, t1, t2, t3] = text.to_le_bytes();
+        let [p0, p1, p2, p3] = le_bytes(place);
+        let [s0, s1, s2, s3] = le_bytes(stamp);
+        let [t0, t1, t2, t3] = le_bytes(text);
         [
             p0,
             p1,
