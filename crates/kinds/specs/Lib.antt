@@ -1,0 +1,4 @@
+pub mod Kind
+pub mod Rules
+pub mod Paragraphs
+pub mod IndexMarks

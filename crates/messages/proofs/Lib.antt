@@ -1,0 +1,4 @@
+pub mod Validity
+pub mod Parts
+pub mod Paragraphs
+pub mod IndexMarks

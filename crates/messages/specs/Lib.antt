@@ -1,0 +1,4 @@
+pub mod Messages
+pub mod States
+pub mod Paragraph
+pub mod IndexMark
