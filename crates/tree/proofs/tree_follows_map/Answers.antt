@@ -1,0 +1,4 @@
+use Rattle.tree.proofs.tree_follows_map.Needs as need
+
+pub returns : need.returns
+returns g c = ?
