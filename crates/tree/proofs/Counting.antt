@@ -19,6 +19,9 @@ pub all-join : {X : Type 0} {P Q R : X → Type 0} → ((x : X) → P x → Q x 
 all-join f [] p q = tt
 all-join f (x ∷ xs) p q = (f x (p .0) (q .0), all-join f xs (p .1) (q .1))
 
+pub all-both : {X : Type 0} (P Q : X → Type 0) (xs : List X) → All P xs → All Q xs → All (λ x. P x × Q x) xs
+all-both P Q xs = all-join (λ x p q. (p, q)) xs
+
 -- two tests that agree on the elements keep the same of them
 pub kept-by-same : {X : Type 0} (p q : X → Bool) (xs : List X) → All (λ x. p x ≡ q x) xs → kept-by p xs ≡ kept-by q xs
 kept-by-same p q [] h = refl
@@ -92,7 +95,7 @@ module _ {X : Type 0} {P : X → Type 0} {before : X → X → Bool} (strict : S
 
   pub drawnBefore-cons : (x : X) (xs : List X) → All P (x ∷ xs) → Distinct (x ∷ xs) → All (λ y. Shifted (drawnBefore before xs x) (drawnBefore before (x ∷ xs) y) (drawnBefore before xs y)) xs
   drawnBefore-cons x xs all apart =
-      all-join {P = λ y. P y × (x ≡ y → ⊥)} (λ y p. shift y (p .0) (p .1)) xs (all-join (λ y py d. (py, d)) xs (all .1) (apart .0)) (drawnBefore-lt xs x (all .1) (all .0))
+      all-join (λ y p. shift y (p .0) (p .1)) xs (all-both P (λ y. x ≡ y → ⊥) xs (all .1) (apart .0)) (drawnBefore-lt xs x (all .1) (all .0))
     where
       shift : (y : X) → P y → (x ≡ y → ⊥) → (before y x ≡ true → drawnBefore before xs y < drawnBefore before xs x) → Shifted (drawnBefore before xs x) (drawnBefore before (x ∷ xs) y) (drawnBefore before xs y)
       shift y py differ fewer =
