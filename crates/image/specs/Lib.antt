@@ -1,0 +1,4 @@
+pub mod Settings
+pub mod Messages
+pub mod Image
+pub mod Reading

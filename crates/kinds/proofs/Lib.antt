@@ -1,0 +1,5 @@
+pub mod Fields
+pub mod Comparisons
+pub mod Determined
+pub mod Terms
+pub mod Strict

@@ -1,0 +1,4 @@
+// stub
+pub fn stub() -> u8 {
+    0
+}
