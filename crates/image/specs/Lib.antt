@@ -2,3 +2,4 @@ pub mod Settings
 pub mod Messages
 pub mod Image
 pub mod Reading
+pub mod Laws

@@ -1,15 +1,15 @@
 -- Sets of messages of a kind: a list of valid messages whose keys strictly rise, so that equal sets are equal lists. Assumes
 -- nothing.
 use mathlib.Core.Path.{_≡_}
-use mathlib.Core.Bool.{Bool, cond}
-use mathlib.Core.List.{List, [], _∷_, map}
-use Prim.Native.Nat.{ℕ, _+_}
+use mathlib.Core.Bool.{Bool}
+use mathlib.Core.List.{List, [], _∷_}
+use Prim.Native.Nat.{ℕ}
 use lib.ListN.{length, take}
 use Rattle.std.specs.declared.cmp.Ordering.{Ordering}
 use Rattle.std.specs.declared.cmp.Ordering.the-variants.{Less, Equal, Greater}
 use Rattle.std.specs.declared.option.Option.{Option}
 use Rattle.std.specs.declared.option.Option.the-variants.{None, Some}
-use Rattle.std.specs.shelf.Lists.{All}
+use Rattle.std.specs.shelf.Lists.{All, sumBy}
 use Rattle.drawing.specs.Drawing.{drawnBefore}
 use Rattle.fields.specs.Numbers.{Bytes}
 use Rattle.kinds.specs.Kind.{Kind}
@@ -42,8 +42,7 @@ module _ (kind : Kind) where
 
   -- the sum of the measures
   abbrev pub totalMeasure : List (List ℕ) → ℕ
-  totalMeasure [] = 0
-  totalMeasure (m ∷ ms) = kind .measured m + totalMeasure ms
+  totalMeasure ms = sumBy (kind .measured) ms
 
   -- the message with the key, if there is one
   abbrev pub standing : List ℕ → List (List ℕ) → Option (List ℕ)

@@ -1,10 +1,11 @@
 -- What any block means: the head and when it is wrong, the parts of a tree block and when it is malformed. Assumes nothing.
 use mathlib.Core.Bool.{Bool, true, cond, not, _&&_, _||_}
 use mathlib.Core.List.{List, [], _∷_, map}
-use Prim.Native.Nat.{ℕ, zero, suc, _+_, _*_, _/_, _%_, _^_}
+use Prim.Native.Nat.{ℕ, _+_, _*_, _/_, _%_, _^_}
 use lib.Count.{ones}
 use lib.Dec.{eqb, leb, ltb}
 use lib.ListN.{getD}
+use Rattle.std.specs.Iters.{counting}
 use Rattle.std.specs.Options.{isSome}
 use Rattle.std.specs.Orderings.{isLt}
 use Rattle.std.specs.declared.option.Option.{Option}
@@ -44,11 +45,6 @@ headRight kind bytes =
 abbrev pub readHead : Kind → List ℕ → Option Head
 readHead kind bytes = cond (headRight kind bytes) (Some (headFields bytes)) None
 
--- the numbers below k in order, from i on
-abbrev pub countUp : (k i : ℕ) → List ℕ
-countUp zero i = []
-countUp (suc k) i = i ∷ countUp k (i + 1)
-
 -- true of each
 abbrev pub every : {X : Type 0} → (X → Bool) → List X → Bool
 every test [] = true
@@ -68,11 +64,14 @@ sectionCount bytes = ones (mask bytes) + 1
 abbrev pub activeAt : List ℕ → ℕ → Bool
 activeAt bytes i = eqb (mask bytes / 2 ^ i % 2) 1
 
--- what a section record says
+-- what the eight bytes of a section record say
 pub record SectionFields : Type 0 where
   pub number : ℕ
   pub weight : ℕ
   pub measure : ℕ
+
+abbrev pub sectionFields : List ℕ → SectionFields
+sectionFields bytes = record { number = field 0 2 bytes; weight = field 2 2 bytes; measure = field 4 4 bytes }
 
 module _ (kind : Kind) (alpha : ℕ) where
   -- the message in slot i
@@ -81,17 +80,15 @@ module _ (kind : Kind) (alpha : ℕ) where
 
   -- the messages in the first m slots, where m is the number of entries
   abbrev pub slots : List ℕ → List (List ℕ)
-  slots bytes = map (slot bytes) (countUp (entryCount bytes) 0)
+  slots bytes = map (slot bytes) (counting 0 (entryCount bytes))
 
   -- the record of section i
   abbrev pub sectionAt : List ℕ → ℕ → SectionFields
-  sectionAt bytes i =
-      let at = 8 + alpha * kind .width + 8 * i in
-      record { number = field at 2 bytes; weight = field (at + 2) 2 bytes; measure = field (at + 4) 4 bytes }
+  sectionAt bytes i = sectionFields (part (8 + alpha * kind .width + i * 8) 8 bytes)
 
   -- the records up to the fan-out
   abbrev pub sectionsOf : List ℕ → List SectionFields
-  sectionsOf bytes = map (sectionAt bytes) (countUp (sectionCount bytes) 0)
+  sectionsOf bytes = map (sectionAt bytes) (counting 0 (sectionCount bytes))
 
   -- the keys strictly rise
   abbrev pub keysRise : List (List ℕ) → Bool
