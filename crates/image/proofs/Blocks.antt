@@ -26,10 +26,10 @@ use Rattle.image.specs.Messages.{totalMeasure}
 use Rattle.image.specs.Reading.{SectionFields, sectionFields, field, mask, activeAt, sectionCount, slots, slot, sectionAt, sectionsOf}
 use Rattle.image.specs.Settings.{alphaFits}
 
-length-filled : {X : Type 0} (x : X) (n : ℕ) (xs : List X) → length xs ≤ n → length (filled x n xs) ≡ n
+pub length-filled : {X : Type 0} (x : X) (n : ℕ) (xs : List X) → length xs ≤ n → length (filled x n xs) ≡ n
 length-filled x n xs h = omega (arith, length-append xs (replicate (n - length xs) x), length-replicate (n - length xs) x)
 
-bytes-zeros : (n : ℕ) → Bytes (replicate n 0)
+pub bytes-zeros : (n : ℕ) → Bytes (replicate n 0)
 bytes-zeros zero = tt
 bytes-zeros (suc n) = (omega arith, bytes-zeros n)
 
@@ -177,8 +177,8 @@ module _ (kind : Kind) (alpha : ℕ) (node : Node (List ℕ)) (lawful : Lawful k
   sections-back =
       let none : Section (List ℕ) = record { number = 0; members = [] } in
       sym (fill-by-all (sectionAt kind alpha (treeBlock kind alpha node)) (map (sectionSays kind) (node .sections)) _ (sectionSays kind none)
-        (length-map (node .sections) (sectionSays kind) ∙ sym section-count-back)
-        (λ i lt. let within : i < length (node .sections) = omega (arith, section-count-back) in getD-map (sectionSays kind) (node .sections) i none (sectionSays kind none) within ∙ sym (section-back i none within)))
+      (length-map (node .sections) (sectionSays kind) ∙ sym section-count-back)
+      (λ i lt. let within : i < length (node .sections) = omega (arith, section-count-back) in getD-map (sectionSays kind) (node .sections) i none (sectionSays kind none) within ∙ sym (section-back i none within)))
 
   node-reads-back : ReadsBack kind alpha node (treeBlock kind alpha node)
   node-reads-back = record {

@@ -12,7 +12,7 @@ use Rattle.drawing.specs.Drawing.{drawnBefore}
 use Rattle.kinds.specs.Kind.{Kind, Key, Lawful}
 use Rattle.kinds.proofs.Strict.{drawn-strict}
 use Rattle.tree.specs.Laws.{Strict, Distinct}
-use Rattle.tree.proofs.Counting.{all-join}
+use Rattle.tree.proofs.Lists.{all-join}
 use Rattle.image.specs.Messages.{keyOf, Valid, Rising, Messages, before}
 
 module _ (kind : Kind) (lawful : Lawful kind) where
@@ -50,8 +50,7 @@ module _ (kind : Kind) (lawful : Lawful kind) where
   one-key : (ms : List (List ℕ)) → All (Valid kind) ms → Rising kind ms → All (λ x. All (λ y. keyOf kind x ≡ keyOf kind y → x ≡ y) ms) ms
   one-key [] v r = tt
   one-key (m ∷ ms) v r =
-      let below = below-rest m ms v r in
-      (
+      let below = below-rest m ms v r in (
         (λ e. refl, all-weaker _ _ (λ y less same. absurd (less-apart m y (v .0) less same)) ms below),
         all-join (λ x less rest. (λ same. absurd (less-apart m x (v .0) less (sym same)), rest)) ms below (one-key ms (v .1) (rising-rest m ms r)),
       )

@@ -17,19 +17,24 @@ use Rattle.image.specs.Settings.{Settings, alphaFits, upTo2000, settingsFit}
 use Rattle.image.proofs.Blocks.{block-of, bytes-then}
 
 -- the limits of the settings, as numbers
-record Limits (s : Settings) : Type 0 where
-  alpha : s .alpha ≤ 16
-  rho : s .rho ≤ 2000
-  capacity : s .capacity ≤ 2000
+pub record Limits (s : Settings) : Type 0 where
+  pub alpha-low : 1 ≤ s .alpha
+  pub alpha : s .alpha ≤ 16
+  pub rho-low : 1 ≤ s .rho
+  pub rho : s .rho ≤ 2000
+  pub capacity : s .capacity ≤ 2000
 
-limits : (width : ℕ) (s : Settings) → settingsFit width s ≡ true → Limits s
+pub limits : (width : ℕ) (s : Settings) → settingsFit width s ≡ true → Limits s
 limits width s fit =
     let parts = and-parts _ _ fit in
-    let alpha = and-parts _ _ (and-parts _ _ (parts .0) .1) in
+    let alpha = and-parts _ _ (parts .0) in
     let others = and-parts _ _ (parts .1) in
+    let rho = and-parts _ _ (others .0) in
     record {
-      alpha = leb-true (s .alpha) 16 (alpha .0);
-      rho = leb-true (s .rho) 2000 (and-parts _ _ (others .0) .1);
+      alpha-low = leb-true 1 (s .alpha) (alpha .0);
+      alpha = leb-true (s .alpha) 16 (and-parts _ _ (alpha .1) .0);
+      rho-low = leb-true 1 (s .rho) (rho .0);
+      rho = leb-true (s .rho) 2000 (rho .1);
       capacity = leb-true (s .capacity) 2000 (and-parts _ _ (others .1) .1);
     }
 
@@ -69,7 +74,7 @@ module _ (kind : Kind) (s : Settings) (chapter : ℕ) (counts : Counts) (fit : s
       let capacity = le 2 (s .capacity) ++ entries in
       let rho = le 2 (s .rho) ++ capacity in
       let numbers =
-          bytes-then 2 (s .rho) capacity (bytes-then 2 (s .capacity) entries (bytes-then 2 (counts .entries) blocks (bytes-then 2 (counts .blocks) measure (bytes-then 4 (counts .measure) (le 4 chapter) (bytes-le 4 chapter))))) in
+      bytes-then 2 (s .rho) capacity (bytes-then 2 (s .capacity) entries (bytes-then 2 (counts .entries) blocks (bytes-then 2 (counts .blocks) measure (bytes-then 4 (counts .measure) (le 4 chapter) (bytes-le 4 chapter))))) in
       let kind′ : kind .number < 256 = omega (arith, lawful .number-high) in
       let alpha′ : s .alpha < 256 = omega (arith, limits (kind .width) s fit .alpha) in
       block-of (headMark ++ (le 2 headVersion ++ (kind .number ∷ s .alpha ∷ rho))) (omega arith)

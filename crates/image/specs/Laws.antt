@@ -9,8 +9,8 @@ use Rattle.std.specs.shelf.Lists.{All, countBy}
 use Rattle.fields.specs.Numbers.{Bytes}
 use Rattle.kinds.specs.Kind.{Kind, Lawful}
 use Rattle.tree.specs.Tree.{Section, Node}
-use Rattle.image.specs.Image.{Counts, maskOf, headBlock, treeBlock}
-use Rattle.image.specs.Messages.{totalMeasure}
+use Rattle.image.specs.Image.{Counts, maskOf, headBlock, treeBlock, treeOf, countsOf, image}
+use Rattle.image.specs.Messages.{totalMeasure, Messages}
 use Rattle.image.specs.Reading.{Head, SectionFields, readHead, field, entryCount, mask, activeAt, slots, sectionsOf}
 use Rattle.image.specs.Settings.{Settings, alphaFits, settingsFit}
 
@@ -78,3 +78,20 @@ Head-reads-back =
     (kind : Kind) (s : Settings) (chapter : ℕ) (counts : Counts)
     → Lawful kind → settingsFit (kind .width) s ≡ true → chapter < 256 ^ 4 → CountsFit s counts
     → HeadLaws kind s chapter counts
+
+-- the image of a set of messages: each of its blocks has 256 bytes, the head reads back, and each block of the tree reads back
+-- its node
+pub record ImageLaws (kind : Kind) (s : Settings) (chapter n : ℕ) (ms : List (List ℕ)) : Type 0 where
+  pub size : length (image kind s chapter n ms) ≡ n
+  pub blocks : All Block (image kind s chapter n ms)
+  pub head : readHead kind (headBlock kind s chapter (countsOf kind s ms)) ≡ Some (record { settings = s; counts = countsOf kind s ms; chapter = chapter })
+  pub nodes : All (λ node. ReadsBack kind (s .alpha) node (treeBlock kind (s .alpha) node)) (treeOf kind s ms)
+
+-- for any lawful kind, settings that fit, chapter number of four bytes, store of a block more than the capacity at least, and
+-- set of messages that the capacity can hold
+abbrev pub Image-reads-back : Type 0
+Image-reads-back =
+    (kind : Kind) (s : Settings) (chapter n : ℕ) (ms : List (List ℕ))
+    → Lawful kind → settingsFit (kind .width) s ≡ true → chapter < 256 ^ 4 → s .capacity + 1 ≤ n
+    → Messages kind ms → length ms ≤ s .capacity
+    → ImageLaws kind s chapter n ms

@@ -12,7 +12,7 @@ use Rattle.std.proofs.shelf.Lists.{length-append, length-map}
 use Rattle.std.proofs.shelf.Sums.{sumBy-cons, length-kept-by}
 use Rattle.std.proofs.shelf.Tests.{both-ways}
 use Rattle.tree.specs.Tree.{Section, Node, block, isActive, amongEarliest, cut, sections, forest, numbered, nodes}
-use Rattle.tree.proofs.Counting.{all-both}
+use Rattle.tree.proofs.Lists.{all-both}
 use Rattle.tree.proofs.Cutting.{length-cut, all-cut, cut-lengths, part-le-together}
 use Rattle.tree.proofs.Forest.{all-forest, length-numbered, all-numbered}
 use Rattle.tree.proofs.Nodes.{rootNode}
@@ -26,6 +26,7 @@ flags-kept narrow wide within (x ∷ xs) = go (narrow x) (wide x) refl (within x
     counted : (n : Bool) → narrow x ≡ n → countBy (λ b. b) (narrow x ∷ map narrow (kept-by wide xs)) ≡ cond n (suc (countBy (λ b. b) (map narrow (kept-by wide xs)))) (countBy (λ b. b) (map narrow (kept-by wide xs)))
     counted true is = ap (λ b. countBy (λ b. b) (b ∷ map narrow (kept-by wide xs))) is ∙ sumBy-cons (λ b. cond b 1 0) true (map narrow (kept-by wide xs)) ∙ omega arith
     counted false is = ap (λ b. countBy (λ b. b) (b ∷ map narrow (kept-by wide xs))) is ∙ sumBy-cons (λ b. cond b 1 0) false (map narrow (kept-by wide xs)) ∙ omega arith
+
     go : (n w : Bool) → narrow x ≡ n → (n ≡ true → w ≡ true) → countBy (λ b. b) (map narrow (kept-by wide xs)) ≡ length (kept-by narrow xs) → countBy (λ b. b) (map narrow (cond w (x ∷ kept-by wide xs) (kept-by wide xs))) ≡ length (cond n (x ∷ kept-by narrow xs) (kept-by narrow xs))
     go true true is h rest = counted true is ∙ ap suc rest
     go true false is h rest = absurd (both-ways false refl (h refl))
@@ -105,8 +106,7 @@ module _ {X : Type 0} (before : X → X → Bool) (alpha rho : ℕ) where
   nodes-numbered top (suc fuel) parent k (x ∷ xs) low h =
       let below = nodes before alpha rho fuel k in
       let parts = sections before alpha rho (x ∷ xs) in
-      let rest : k + 1 + length (forest below (k + 1) parts) ≤ top = omega (arith, h) in
-      (
+      let rest : k + 1 + length (forest below (k + 1) parts) ≤ top = omega (arith, h) in (
         record { parent = low; sections = numbers-le below (no-nodes fuel k) top (k + 1) parts rest },
         forest-numbered below (no-nodes fuel k) top (λ j s l. nodes-numbered top fuel k j s (omega arith) l) (k + 1) parts rest,
       )

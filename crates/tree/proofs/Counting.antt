@@ -1,31 +1,19 @@
 -- How many elements are drawn before one, and how many are among the k drawn earliest. Assumes nothing.
-use mathlib.Core.Path.{_≡_, refl, sym, ap, _∙_}
+use mathlib.Core.Path.{_≡_, refl}
 use mathlib.Core.Bool.{Bool, true, false, cond}
 use mathlib.Core.List.{List, [], _∷_}
 use mathlib.Core.Logic.{_⊎_, inl, inr, ⊎-elim}
-use Prim.Native.Nat.{ℕ, zero, suc, _+_, _-_, min, _≤_, _<_}
+use Prim.Native.Nat.{ℕ, _+_, _-_, min, _≤_, _<_}
 use native.Mathlib.Omega.{arith}
 use lib.Dec.{ltb}
 use lib.ListN.{length}
 use Rattle.std.specs.shelf.Lists.{All, kept-by}
 use Rattle.std.proofs.shelf.Elements.{all-weaker}
-use Rattle.std.proofs.shelf.Tests.{both-ways, lt-ltb, le-ltb, ltb-true, ltb-false, cases-lt, cases-bool, cond-true, cond-false}
+use Rattle.std.proofs.shelf.Tests.{both-ways, lt-ltb, le-ltb, cases-lt, cond-true, cond-false}
 use Rattle.std.proofs.shelf.Ways.{same-from-decides, decides-like, decides-ltb}
 use Rattle.tree.specs.Tree.{drawnBefore, amongEarliest}
 use Rattle.tree.specs.Laws.{Strict, Distinct}
-
--- what follows from two facts of an element holds of each element of which both do
-pub all-join : {X : Type 0} {P Q R : X → Type 0} → ((x : X) → P x → Q x → R x) → (xs : List X) → All P xs → All Q xs → All R xs
-all-join f [] p q = tt
-all-join f (x ∷ xs) p q = (f x (p .0) (q .0), all-join f xs (p .1) (q .1))
-
-pub all-both : {X : Type 0} (P Q : X → Type 0) (xs : List X) → All P xs → All Q xs → All (λ x. P x × Q x) xs
-all-both P Q xs = all-join (λ x p q. (p, q)) xs
-
--- two tests that agree on the elements keep the same of them
-pub kept-by-same : {X : Type 0} (p q : X → Bool) (xs : List X) → All (λ x. p x ≡ q x) xs → kept-by p xs ≡ kept-by q xs
-kept-by-same p q [] h = refl
-kept-by-same p q (x ∷ xs) h = rw (h .0, kept-by-same p q xs (h .1))
+use Rattle.tree.proofs.Lists.{all-join, all-both, kept-by-same}
 
 -- where what is counted on the left is counted on the right, a gap between the counts stays
 count-gap : (gap : ℕ) (s t : Bool) (m n : ℕ) → (s ≡ true → t ≡ true) → gap + m ≤ n → gap + cond s (1 + m) m ≤ cond t (1 + n) n
@@ -93,6 +81,7 @@ module _ {X : Type 0} {P : X → Type 0} {before : X → X → Bool} (strict : S
       go false true e f = inr (e, f)
       go false false e f = absurd (apart (strict .connected x y px py e f))
 
+  -- how x in front of the others shifts the counts
   pub drawnBefore-cons : (x : X) (xs : List X) → All P (x ∷ xs) → Distinct (x ∷ xs) → All (λ y. Shifted (drawnBefore before xs x) (drawnBefore before (x ∷ xs) y) (drawnBefore before xs y)) xs
   drawnBefore-cons x xs all apart =
       all-join (λ y p. shift y (p .0) (p .1)) xs (all-both P (λ y. x ≡ y → ⊥) xs (all .1) (apart .0)) (drawnBefore-lt xs x (all .1) (all .0))

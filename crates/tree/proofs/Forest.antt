@@ -1,5 +1,5 @@
 -- The nodes of several subtrees, and their numbered sections, from what is known of each subtree. Assumes nothing.
-use mathlib.Core.Path.{_≡_, refl, sym, ap, ap₂, subst, _∙_}
+use mathlib.Core.Path.{_≡_, refl, sym, ap, _∙_}
 use mathlib.Core.List.{List, [], _∷_, _++_, map}
 use Prim.Native.Nat.{ℕ, _+_}
 use lib.ListN.{length}
@@ -8,9 +8,10 @@ use Rattle.std.specs.shelf.Lists.{All, joined}
 use Rattle.std.proofs.shelf.Elements.{all-append}
 use Rattle.std.proofs.shelf.Lists.{length-map}
 use Rattle.std.proofs.shelf.Sorted.{shuffled-refl}
-use Rattle.tree.specs.Tree.{Section, Node, forest, numbered}
+use Rattle.tree.specs.Tree.{Node, forest, numbered}
 use Rattle.tree.proofs.Cutting.{together}
-use Rattle.tree.proofs.Shuffles.{shuffled-append, joined-append}
+use Rattle.tree.proofs.Lists.{joined-append}
+use Rattle.tree.proofs.Shuffles.{shuffled-append}
 
 module _ {X : Type 0} (below : ℕ → List X → List (Node X)) where
   -- what is true of each node of each subtree is true of each node

@@ -1,16 +1,17 @@
 -- The tree over mapped elements, where the map keeps the drawing order. Assumes nothing.
-use mathlib.Core.Path.{_≡_, refl, sym, ap, ap₂, _∙_}
-use mathlib.Core.Bool.{Bool, true, false, cond}
-use mathlib.Core.List.{List, [], _∷_, _++_, map}
+use mathlib.Core.Path.{_≡_, refl, ap, ap₂, _∙_}
+use mathlib.Core.Bool.{Bool, true, false}
+use mathlib.Core.List.{List, [], _∷_, map}
 use Prim.Native.Nat.{ℕ, zero, suc, _+_, _-_}
 use lib.Dec.{ltb}
 use lib.ListN.{length}
-use Rattle.std.specs.shelf.Lists.{All, kept-by}
+use Rattle.std.specs.shelf.Lists.{All}
 use Rattle.std.proofs.shelf.Elements.{all-weaker, all-kept-by}
 use Rattle.std.proofs.shelf.Lists.{length-map, map-append}
 use Rattle.tree.specs.Tree.{Section, Node, fanOut, intoFirst, cut, forest, numbered, drawnBefore, amongEarliest, block, isActive, sections, nodes}
 use Rattle.tree.specs.Laws.{mapNode}
-use Rattle.tree.proofs.Cutting.{all-cut}
+use Rattle.tree.proofs.Cutting.{cutStep, all-cut}
+use Rattle.tree.proofs.Lists.{kept-by-map, map-tests}
 use Rattle.tree.proofs.Nodes.{rootNode}
 
 -- a section with each of its members replaced
@@ -18,33 +19,18 @@ abbrev pub mapSection : {X Y : Type 0} → (X → Y) → Section X → Section Y
 mapSection f s = record { number = s .number; members = map f (s .members) }
 
 module _ {X Y : Type 0} (f : X → Y) where
-  pub kept-by-map : (p : X → Bool) (q : Y → Bool) (xs : List X) → All (λ x. q (f x) ≡ p x) xs → kept-by q (map f xs) ≡ map f (kept-by p xs)
-  kept-by-map p q [] same = refl
-  kept-by-map p q (x ∷ xs) same = rw (same .0, kept-by-map p q xs (same .1)) (go (p x))
-    where
-      go : (t : Bool) → cond t (f x ∷ map f (kept-by p xs)) (map f (kept-by p xs)) ≡ map f (cond t (x ∷ kept-by p xs) (kept-by p xs))
-      go true = refl
-      go false = refl
-
-  pub map-tests : (p : X → Bool) (q : Y → Bool) (xs : List X) → All (λ x. q (f x) ≡ p x) xs → map q (map f xs) ≡ map p xs
-  map-tests p q [] same = refl
-  map-tests p q (x ∷ xs) same = ap₂ _∷_ (same .0) (map-tests p q xs (same .1))
-
   intoFirst-map : (x : X) (parts : List (List X)) → intoFirst (f x) (map (map f) parts) ≡ map (map f) (intoFirst x parts)
   intoFirst-map x [] = refl
   intoFirst-map x (s ∷ parts) = refl
 
   pub cut-map : (p p′ : X → Bool) (q q′ : Y → Bool) (xs : List X) → All (λ x. q (f x) ≡ p x) xs → All (λ x. q′ (f x) ≡ p′ x) xs → cut q q′ (map f xs) ≡ map (map f) (cut p p′ xs)
   cut-map p p′ q q′ [] same same′ = refl
-  cut-map p p′ q q′ (x ∷ xs) same same′ = rw (same .0, same′ .0, cut-map p p′ q q′ xs (same .1) (same′ .1)) (go (p x) (p′ x))
+  cut-map p p′ q q′ (x ∷ xs) same same′ = rw (same .0, same′ .0, cut-map p p′ q q′ xs (same .1) (same′ .1)) (go (p x) (p′ x) (cut p p′ xs))
     where
-      rest : List (List X)
-      rest = cut p p′ xs
-
-      go : (s t : Bool) → cond s ([] ∷ map (map f) rest) (cond t (map (map f) rest) (intoFirst (f x) (map (map f) rest))) ≡ map (map f) (cond s ([] ∷ rest) (cond t rest (intoFirst x rest)))
-      go true t = refl
-      go false true = refl
-      go false false = intoFirst-map x rest
+      go : (s t : Bool) (rest : List (List X)) → cutStep (f x) s t (map (map f) rest) ≡ map (map f) (cutStep x s t rest)
+      go true t rest = refl
+      go false true rest = refl
+      go false false rest = intoFirst-map x rest
 
   module _ (below : ℕ → List X → List (Node X)) (below′ : ℕ → List Y → List (Node Y)) where
     pub forest-map : (k : ℕ) (parts : List (List X)) → All (λ s. (j : ℕ) → below′ j (map f s) ≡ map (mapNode f) (below j s)) parts → forest below′ k (map (map f) parts) ≡ map (mapNode f) (forest below k parts)
@@ -71,7 +57,7 @@ module _ {X Y : Type 0} (f : X → Y) where
       isActive-map xs all ys all′ = rw length-map (amongEarliest-map (fanOut alpha rho (length xs) - 1) xs all ys all′)
 
       pub block-map : (xs : List X) → All P xs → block beforeY alpha (map f xs) ≡ map f (block beforeX alpha xs)
-      block-map xs all = kept-by-map (amongEarliest beforeX alpha xs) (amongEarliest beforeY alpha (map f xs)) xs (amongEarliest-map alpha xs all xs all)
+      block-map xs all = kept-by-map f (amongEarliest beforeX alpha xs) (amongEarliest beforeY alpha (map f xs)) xs (amongEarliest-map alpha xs all xs all)
 
       pub sections-map : (xs : List X) → All P xs → sections beforeY alpha rho (map f xs) ≡ map (map f) (sections beforeX alpha rho xs)
       sections-map xs all = cut-map (isActive beforeX alpha rho xs) (amongEarliest beforeX alpha xs) (isActive beforeY alpha rho (map f xs)) (amongEarliest beforeY alpha (map f xs)) xs (isActive-map xs all xs all) (amongEarliest-map alpha xs all xs all)
@@ -79,7 +65,7 @@ module _ {X Y : Type 0} (f : X → Y) where
       active-map : (xs : List X) → All P xs → map (isActive beforeY alpha rho (map f xs)) (block beforeY alpha (map f xs)) ≡ map (isActive beforeX alpha rho xs) (block beforeX alpha xs)
       active-map xs all =
           ap (map (isActive beforeY alpha rho (map f xs))) (block-map xs all)
-          ∙ map-tests (isActive beforeX alpha rho xs) (isActive beforeY alpha rho (map f xs)) (block beforeX alpha xs) (isActive-map xs all (block beforeX alpha xs) (all-kept-by (amongEarliest beforeX alpha xs) P xs all))
+          ∙ map-tests f (isActive beforeX alpha rho xs) (isActive beforeY alpha rho (map f xs)) (block beforeX alpha xs) (isActive-map xs all (block beforeX alpha xs) (all-kept-by (amongEarliest beforeX alpha xs) P xs all))
 
       -- if mapping the elements maps the nodes of each section, it maps the node above them
       module _ (below : ℕ → List X → List (Node X)) (below′ : ℕ → List Y → List (Node Y)) (k : ℕ) (xs : List X) (all : All P xs) (each : All (λ s. (j : ℕ) → below′ j (map f s) ≡ map (mapNode f) (below j s)) (sections beforeX alpha rho xs)) where

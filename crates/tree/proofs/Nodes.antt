@@ -1,19 +1,18 @@
 -- The nodes of a subtree, by recursion over the fuel. Assumes nothing.
-use mathlib.Core.Path.{_≡_, refl, sym, ap, ap₂, subst, _∙_}
+use mathlib.Core.Path.{_≡_, refl, _∙_}
 use mathlib.Core.Bool.{Bool, false}
-use mathlib.Core.List.{List, [], _∷_, _++_, map}
+use mathlib.Core.List.{List, [], _∷_, map}
 use Prim.Native.Nat.{ℕ, zero, suc, _+_, _≤_, _<_}
 use native.Mathlib.Omega.{arith}
 use lib.ListN.{length}
 use Rattle.std.specs.Slices.{Shuffled}
 use Rattle.std.specs.shelf.Lists.{All, joined}
-use Rattle.std.proofs.shelf.Elements.{all-weaker}
-use Rattle.std.proofs.shelf.Lists.{length-append}
 use Rattle.std.proofs.shelf.Sorted.{shuffled-refl, shuffled-trans, length-shuffled}
-use Rattle.tree.specs.Tree.{Node, block, isActive, sections, numbered, forest, nodes}
+use Rattle.tree.specs.Tree.{Node, block, isActive, sections, numbered, nodes}
 use Rattle.tree.specs.Laws.{Strict, Distinct, NodeLaws}
 use Rattle.tree.proofs.Forest.{all-forest, forest-shuffled, length-numbered, all-numbered, forest-same, numbered-same}
-use Rattle.tree.proofs.Sections.{Within, sections-shuffled, length-block, length-sections, each-section, sections-later}
+use Rattle.tree.proofs.Lists.{length-le-joined}
+use Rattle.tree.proofs.Sections.{sections-shuffled, length-block, length-sections, each-section, sections-later}
 use Rattle.tree.proofs.Shuffles.{shuffled-append-right}
 
 -- the first node of the subtree over all, whose other nodes are given by `below`
@@ -27,10 +26,10 @@ rootNode before alpha rho below parent k all =
       sections = numbered below (k + 1) (sections before alpha rho all);
     }
 
--- lists none of which is empty are no more than their elements
-length-le-joined : {Y A : Type 0} (f : Y → List A) (ys : List Y) → All (λ y. 0 < length (f y)) ys → length ys ≤ length (joined f ys)
-length-le-joined f [] some = omega arith
-length-le-joined f (y ∷ ys) some = omega (arith, some .0, length-le-joined f ys (some .1), length-append (f y) (joined f ys))
+pub nodes-some : {X : Type 0} (before : X → X → Bool) (alpha rho fuel parent k : ℕ) (xs : List X) → 0 < fuel → 0 < length xs → 0 < length (nodes before alpha rho fuel parent k xs)
+nodes-some before alpha rho zero parent k xs f l = absurd (omega arith)
+nodes-some before alpha rho (suc fuel) parent k [] f l = absurd (omega arith)
+nodes-some before alpha rho (suc fuel) parent k (x ∷ xs) f l = omega arith
 
 module _ {X : Type 0} {P : X → Type 0} {before : X → X → Bool} (strict : Strict P before) (alpha rho : ℕ) (holds : 1 ≤ alpha) where
   -- what is true of the first node of every subtree is true of each node
@@ -71,21 +70,16 @@ module _ {X : Type 0} {P : X → Type 0} {before : X → X → Bool} (strict : S
   pub nodes-lawful : 1 ≤ rho → (fuel parent k : ℕ) (xs : List X) → All P xs → Distinct xs → All (NodeLaws before alpha rho) (nodes before alpha rho fuel parent k xs)
   nodes-lawful h =
       all-nodes _ (λ below parent k xs some all apart. record {
-        full = length-block strict alpha rho xs all apart;
+        full = length-block strict alpha xs all apart;
         fan = length-numbered below (k + 1) _ ∙ length-sections strict alpha rho h xs all apart;
         later = all-numbered below (All (λ y. All (λ x. before y x ≡ false) (block before alpha xs))) (k + 1) _ (sections-later strict alpha rho xs all);
       })
 
   -- no block is empty
   pub nodes-filled : (fuel parent k : ℕ) (xs : List X) → All P xs → Distinct xs → All (λ node. 0 < length (node .entries)) (nodes before alpha rho fuel parent k xs)
-  nodes-filled = all-nodes _ (λ below parent k xs some all apart. omega (arith, length-block strict alpha rho xs all apart))
+  nodes-filled = all-nodes _ (λ below parent k xs some all apart. omega (arith, length-block strict alpha xs all apart))
 
   -- so there are no more blocks than elements
   pub nodes-few : (fuel parent k : ℕ) (xs : List X) → All P xs → Distinct xs → length xs ≤ fuel → length (nodes before alpha rho fuel parent k xs) ≤ length xs
   nodes-few fuel parent k xs all apart l =
       omega (arith, length-le-joined _ (nodes before alpha rho fuel parent k xs) (nodes-filled fuel parent k xs all apart), length-shuffled _ _ (nodes-shuffled fuel parent k xs all apart l))
-
-  pub nodes-some : (fuel parent k : ℕ) (xs : List X) → 0 < fuel → 0 < length xs → 0 < length (nodes before alpha rho fuel parent k xs)
-  nodes-some zero parent k xs f l = absurd (omega arith)
-  nodes-some (suc fuel) parent k [] f l = absurd (omega arith)
-  nodes-some (suc fuel) parent k (x ∷ xs) f l = omega arith

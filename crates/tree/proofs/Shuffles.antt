@@ -1,11 +1,9 @@
 -- Shuffled lists one after the other. Assumes nothing.
-use mathlib.Core.Path.{_≡_, refl, sym, ap, subst, _∙_}
+use mathlib.Core.Path.{refl, sym, subst}
 use mathlib.Core.List.{List, [], _∷_, _++_}
-use Prim.Native.Nat.{ℕ, _<_}
 use native.Mathlib.Omega.{arith}
 use Rattle.std.specs.Slices.{Shuffled}
-use Rattle.std.specs.shelf.Lists.{joined}
-use Rattle.std.proofs.shelf.Lists.{append-nil, append-assoc}
+use Rattle.std.proofs.shelf.Lists.{append-nil}
 use Rattle.std.proofs.shelf.Sorted.{shuffled-refl, shuffled-cons, shuffled-swap, shuffled-trans}
 
 -- an element put behind some others
@@ -28,7 +26,3 @@ shuffled-append xs xs′ ys ys′ h k =
     shuffled-trans _ (ys ++ xs) _ (shuffled-exchange xs ys)
     (shuffled-trans _ (ys ++ xs′) _ (shuffled-append-right ys xs xs′ h)
     (shuffled-trans _ (xs′ ++ ys) _ (shuffled-exchange ys xs′) (shuffled-append-right xs′ ys ys′ k)))
-
-pub joined-append : {X A : Type 0} (f : X → List A) (xs ys : List X) → joined f (xs ++ ys) ≡ joined f xs ++ joined f ys
-joined-append f [] ys = refl
-joined-append f (x ∷ xs) ys = ap (λ l. f x ++ l) (joined-append f xs ys) ∙ sym (append-assoc (f x) (joined f xs) (joined f ys))

@@ -11,11 +11,11 @@ returns g c before alpha rho xs strict apart holds shares =
     let all = all-has-itself xs in
     let n = length xs in
     record {
-      fills = length-block strict alpha rho xs all apart;
+      fills = length-block strict alpha xs all apart;
       divides = length-sections strict alpha rho shares xs all apart;
       each = nodes-lawful strict alpha rho holds shares n 0 1 xs all apart;
       once = nodes-shuffled strict alpha rho holds n 0 1 xs all apart (le-refl n);
       few = nodes-few strict alpha rho holds n 0 1 xs all apart (le-refl n);
-      some = λ some. nodes-some strict alpha rho holds n 0 1 xs some some;
+      some = λ some. nodes-some before alpha rho n 0 1 xs some some;
       enough = λ fuel parent k l. fuel-enough strict alpha rho holds fuel n parent k xs all apart l (le-refl n);
     }
