@@ -1,4 +1,5 @@
 pub mod Answers
+pub mod Coded
 pub mod Layout
 pub mod Check
 pub mod Deliver

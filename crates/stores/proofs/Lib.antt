@@ -1,0 +1,4 @@
+pub mod Access
+pub mod Cut
+pub mod Placed
+pub mod United
