@@ -42,7 +42,7 @@ all-cutStep Q x false true rest none each more = each
 all-cutStep Q x false false rest none each more = more refl
 
 -- no part is longer than all parts together
-part-le-together : {X : Type 0} (parts : List (List X)) → All (λ s. length s ≤ length (together parts)) parts
+pub part-le-together : {X : Type 0} (parts : List (List X)) → All (λ s. length s ≤ length (together parts)) parts
 part-le-together [] = tt
 part-le-together (s ∷ parts) =
     let whole : length (together (s ∷ parts)) ≡ length s + length (together parts) = length-append s (together parts) in

@@ -1,0 +1,5 @@
+pub mod Settings
+pub mod Messages
+pub mod Image
+pub mod Reading
+pub mod Laws
