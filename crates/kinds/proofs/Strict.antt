@@ -11,7 +11,8 @@ use Rattle.std.specs.Orderings.{isLt, reversed}
 use Rattle.std.specs.declared.cmp.Ordering.{Ordering}
 use Rattle.std.specs.declared.cmp.Ordering.the-variants.{Less, Equal, Greater}
 use Rattle.drawing.specs.Drawing.{drawnBefore, priority}
-use Rattle.layout.specs.Orders.{StrictOrder, TotalOrder}
+use Rattle.fields.specs.Orders.{StrictOrder}
+use Rattle.layout.specs.Orders.{TotalOrder}
 
 less : (o : Ordering) → isLt o ≡ true → o ≡ Less
 less Less h = refl

@@ -2,7 +2,7 @@
 ghost use mathlib.Core.Path.{_≡_};
 ghost use Rattle.drawing.specs.Drawing.{drawnBefore};
 ghost use Rattle.kinds.specs.Kind.{Key};
-ghost use Rattle.layout.specs.Orders.{StrictOrder};
+ghost use Rattle.fields.specs.Orders.{StrictOrder};
 use crate::kind::EntryKind;
 
 // Whether the key a is drawn before the key b. No two different keys of a kind are drawn at one time.

@@ -2,11 +2,11 @@
 ghost use Rattle.kinds.specs.Paragraphs.{paragraphs};
 use crate::kind::EntryKind;
 use crate::rules;
+use fields::byte_at;
+use fields::u32_at;
 use layout::Field;
-use layout::byte_at;
 use layout::compare_fields;
 use layout::first_invalid;
-use layout::number_at;
 use std::cmp::Ordering;
 
 const PLACE: usize = 0;
@@ -64,7 +64,7 @@ pub impl EntryKind for Paragraphs as ParagraphsKind {
                 (SENDER, rules::is_office(byte_at(message, SENDER))),
                 (STATE, rules::is_state(state)),
                 (LINES, rules::lines_fit(state, byte_at(message, LINES))),
-                (TEXT, rules::text_fits(state, number_at(message, TEXT))),
+                (TEXT, rules::text_fits(state, u32_at(message, TEXT))),
             ],
         )
     }

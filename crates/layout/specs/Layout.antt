@@ -3,11 +3,11 @@ use mathlib.Core.Bool.{Bool, cond, _&&_}
 use mathlib.Core.List.{List, [], _∷_, map}
 use Prim.Native.Nat.{ℕ, _+_}
 use lib.Dec.{leb}
-use lib.ListN.{getD, take, drop}
+use lib.ListN.{getD}
 use Rattle.std.specs.declared.cmp.Ordering.{Ordering}
 use Rattle.std.specs.declared.option.Option.{Option}
 use Rattle.std.specs.declared.option.Option.the-variants.{Some, None}
-use Rattle.fields.specs.Numbers.{number}
+use Rattle.fields.specs.Numbers.{number, part}
 use Rattle.layout.specs.Orders.{lexical}
 use Rattle.layout.specs.declared.Field.{Field}
 use Rattle.layout.specs.declared.Field.the-variants.{Byte, Folded, Number}
@@ -18,7 +18,7 @@ byteAt message at = getD message at 0
 
 -- the number of four bytes at an offset, the lowest byte first; bytes that are not there are 0
 abbrev pub numberAt : List ℕ → ℕ → ℕ
-numberAt message at = number (take 4 (drop at message))
+numberAt message at = number (part at 4 message)
 
 -- A to Z read as a to z
 abbrev pub lowered : ℕ → ℕ

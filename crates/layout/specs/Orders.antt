@@ -16,13 +16,6 @@ pub record TotalOrder {X : Type 0} (D : X → Type 0) (order : X → X → Order
   pub mirror : (a b : X) → D a → D b → order b a ≡ reversed (order a b)
   pub transitive : (a b c : X) → D a → D b → D c → order a b ≡ Less → order b c ≡ Less → order a c ≡ Less
 
--- The test says of two that the first comes before the second, in a strict order over all of which D holds: nothing comes
--- before itself, it is transitive, and of two that differ one comes before the other.
-pub record StrictOrder {X : Type 0} (D : X → Type 0) (before : X → X → Bool) : Type 0 where
-  pub irreflexive : (a : X) → D a → before a a ≡ false
-  pub transitive : (a b c : X) → D a → D b → D c → before a b ≡ true → before b c ≡ true → before a c ≡ true
-  pub connected : (a b : X) → D a → D b → before a b ≡ false → before b a ≡ false → a ≡ b
-
 -- the first two numbers that differ decide; a list that ends first is less
 abbrev pub lexical : List ℕ → List ℕ → Ordering
 lexical [] [] = Equal

@@ -1,7 +1,9 @@
 // The layout of messages in fields: reading them, comparing messages by them, and finding the first that is invalid.
 ghost use mathlib.Core.Path.{_≡_};
 ghost use Rattle.std.specs.Keys.{rank as compared};
-ghost use Rattle.layout.specs.Layout.{byFields, byteAt, firstInvalid, lowered, numberAt, value as valued};
+ghost use Rattle.layout.specs.Layout.{byFields, firstInvalid, lowered, value as valued};
+use fields::byte_at;
+use fields::u32_at;
 use std::cmp::Ordering;
 
 // What two messages are compared by: a byte, a byte with A to Z read as a to z, or a number of four bytes, each at an
@@ -20,7 +22,7 @@ impl Field {
         match self {
             Field::Byte(at) => u32::from(byte_at(message, at)),
             Field::Folded(at) => u32::from(lower(byte_at(message, at))),
-            Field::Number(at) => number_at(message, at),
+            Field::Number(at) => u32_at(message, at),
         }
     }
 
@@ -35,26 +37,6 @@ fn lower(b: u8) -> u8
     ensures { λ r. ⌜ r ≡ lowered b ⌝ }
 {
     if b >= b'A' && b <= b'Z' { b + 32 } else { b }
-}
-
-// The byte at an offset; one that is not there is 0.
-pub fn byte_at(message: &[u8], at: usize) -> u8
-    ensures { λ r. ⌜ r ≡ byteAt (now (message .entry)) at ⌝ }
-{
-    if at < message.len() { message[at] } else { 0 }
-}
-
-// The number of four bytes at an offset, the lowest byte first; bytes that are not there are 0.
-pub fn number_at(message: &[u8], at: usize) -> u32
-    ensures { λ r. ⌜ r ≡ numberAt (now (message .entry)) at ⌝ }
-{
-    let rest = &message[message.len().min(at)..];
-    u32::from_le_bytes([
-        byte_at(rest, 0),
-        byte_at(rest, 1),
-        byte_at(rest, 2),
-        byte_at(rest, 3),
-    ])
 }
 
 // The first of the fields that differs decides.

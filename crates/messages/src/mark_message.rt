@@ -10,10 +10,10 @@ use crate::numbers::le_bytes;
 use crate::state::State;
 use crate::state::StateDebug;
 use crate::valid::is_message;
+use fields::byte_at;
+use fields::u32_at;
 use kinds::IndexMarks;
 use kinds::IndexMarksKind;
-use layout::byte_at;
-use layout::number_at;
 
 // The term is filled up with zeros.
 #[derive(Clone, Copy, Debug)]
@@ -92,12 +92,12 @@ impl IndexMark {
         term.copy_from_slice(&message[0..16]);
         IndexMark {
             term,
-            place: number_at(message, 16),
+            place: u32_at(message, 16),
             origin: byte_at(message, 20),
             sender: byte_at(message, 21),
             state: State::numbered(byte_at(message, 22)),
             emphasis: byte_at(message, 23),
-            stamp: number_at(message, 24),
+            stamp: u32_at(message, 24),
         }
     }
 }

@@ -8,10 +8,10 @@ use crate::state::State;
 use crate::state::StateDebug;
 use crate::state::StatePartialEq;
 use crate::valid::is_message;
+use fields::byte_at;
+use fields::u32_at;
 use kinds::Paragraphs;
 use kinds::ParagraphsKind;
-use layout::byte_at;
-use layout::number_at;
 
 #[derive(Clone, Copy, PartialEq, Eq, Debug)]
 pub struct Paragraph {
@@ -87,13 +87,13 @@ impl Paragraph {
         ensures { λ r. ⌜ r ≡ fieldsOf (now (message .entry)) ⌝ }
     {
         Paragraph {
-            place: number_at(message, 0),
+            place: u32_at(message, 0),
             origin: byte_at(message, 4),
             sender: byte_at(message, 5),
             state: State::numbered(byte_at(message, 6)),
             lines: byte_at(message, 7),
-            stamp: number_at(message, 8),
-            text: number_at(message, 12),
+            stamp: u32_at(message, 8),
+            text: u32_at(message, 12),
         }
     }
 }

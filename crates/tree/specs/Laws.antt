@@ -6,14 +6,8 @@ use Prim.Native.Nat.{ℕ, min, _≤_, _<_}
 use lib.ListN.{length}
 use Rattle.std.specs.Slices.{Shuffled}
 use Rattle.std.specs.shelf.Lists.{All, Has, joined}
+pub use Rattle.fields.specs.Orders.{StrictOrder as Strict}
 use Rattle.tree.specs.Tree.{Section, Node, fanOut, block, sections, nodes, tree}
-
--- a strict total order over all of which P holds: nothing is before itself, before is transitive, and of two different ones
--- one is before the other
-pub record Strict {X : Type 0} (P : X → Type 0) (before : X → X → Bool) : Type 0 where
-  pub irreflexive : (x : X) → P x → before x x ≡ false
-  pub transitive : (x y z : X) → P x → P y → P z → before x y ≡ true → before y z ≡ true → before x z ≡ true
-  pub connected : (x y : X) → P x → P y → before x y ≡ false → before y x ≡ false → x ≡ y
 
 -- no element twice
 abbrev pub Distinct : {X : Type 0} → List X → Type 0
