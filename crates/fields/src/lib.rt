@@ -39,3 +39,11 @@ pub fn u32_at(bytes: &[u8], at: usize) -> u32
         byte_past(bytes, at, 3),
     ])
 }
+
+// The bytes from an offset on, so many of them, or as many as there are.
+pub fn slice_at(bytes: &[u8], at: usize, count: usize) -> &[u8]
+    ensures { λ r. ⌜ now r ≡ part at count (now (bytes .entry)) ⌝ }
+{
+    let rest = &bytes[at.min(bytes.len())..];
+    &rest[0..count.min(rest.len())]
+}
