@@ -3,3 +3,4 @@ pub mod Messages
 pub mod Image
 pub mod Reading
 pub mod Laws
+pub mod Coded

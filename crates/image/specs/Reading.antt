@@ -13,6 +13,8 @@ use Rattle.std.specs.declared.option.Option.the-variants.{None, Some}
 use Rattle.std.specs.shelf.Text.{sameBytes}
 use Rattle.fields.specs.Numbers.{number, part}
 use Rattle.kinds.specs.Kind.{Kind}
+pub use Rattle.image.specs.declared.head.Head.{Head}
+pub use Rattle.image.specs.declared.section.SectionFields.{SectionFields}
 use Rattle.image.specs.Image.{headMark, headVersion, Counts}
 use Rattle.image.specs.Messages.{keyOf}
 use Rattle.image.specs.Settings.{Settings, settingsFit}
@@ -20,12 +22,6 @@ use Rattle.image.specs.Settings.{Settings, settingsFit}
 -- the number in the k bytes from an offset on
 abbrev pub field : (at k : ℕ) → List ℕ → ℕ
 field at k bytes = number (part at k bytes)
-
--- what a head says
-pub record Head : Type 0 where
-  pub settings : Settings
-  pub counts : Counts
-  pub chapter : ℕ
 
 abbrev pub headFields : List ℕ → Head
 headFields bytes =
@@ -35,12 +31,18 @@ headFields bytes =
       chapter = field 19 4 bytes;
     }
 
--- mark, version and kind are right, the settings fit, there are no more entries than the capacity, and no more blocks than
--- entries
+-- the settings fit, there are no more entries than the capacity, and no more blocks than entries
+abbrev pub headSound : (width : ℕ) → Head → Bool
+headSound width head =
+    settingsFit width (head .settings) && (leb (head .counts .entries) (head .settings .capacity) && leb (head .counts .blocks) (head .counts .entries))
+
+-- mark and version are those of a chapter
+abbrev pub isChapter : List ℕ → Bool
+isChapter bytes = sameBytes (part 0 3 bytes) headMark && eqb (field 3 2 bytes) headVersion
+
+-- mark, version and kind are right, and what the head says is sound
 abbrev pub headRight : Kind → List ℕ → Bool
-headRight kind bytes =
-    let head = headFields bytes in
-    sameBytes (part 0 3 bytes) headMark && (eqb (field 3 2 bytes) headVersion && (eqb (getD bytes 5 0) (kind .number) && (settingsFit (kind .width) (head .settings) && (leb (head .counts .entries) (head .settings .capacity) && leb (head .counts .blocks) (head .counts .entries)))))
+headRight kind bytes = isChapter bytes && (eqb (getD bytes 5 0) (kind .number) && headSound (kind .width) (headFields bytes))
 
 abbrev pub readHead : Kind → List ℕ → Option Head
 readHead kind bytes = cond (headRight kind bytes) (Some (headFields bytes)) None
@@ -65,11 +67,6 @@ abbrev pub activeAt : List ℕ → ℕ → Bool
 activeAt bytes i = eqb (mask bytes / 2 ^ i % 2) 1
 
 -- what the eight bytes of a section record say
-pub record SectionFields : Type 0 where
-  pub number : ℕ
-  pub weight : ℕ
-  pub measure : ℕ
-
 abbrev pub sectionFields : List ℕ → SectionFields
 sectionFields bytes = record { number = field 0 2 bytes; weight = field 2 2 bytes; measure = field 4 4 bytes }
 
