@@ -10,7 +10,8 @@ use Rattle.std.specs.declared.option.Option.the-variants.{None, Some}
 use Rattle.std.specs.declared.result.Result.the-variants.{Ok, Err}
 use Rattle.kinds.specs.Kind.{Kind}
 use Rattle.image.specs.Messages.{keyOf, standing}
-use Rattle.image.specs.Reading.{Head, activeAt, slots, sectionAt, wellFormed}
+use Rattle.image.specs.declared.head.Head.{Head}
+use Rattle.image.specs.Reading.{activeAt, slots, sectionAt, wellFormed}
 use Rattle.chapter.specs.Answers.{Answer, andThen, need, blockAt, headOf}
 
 -- how many active separators, among the messages from slot i on, are below the key
@@ -27,7 +28,7 @@ treeBlockAt kind head blocks b =
 
 -- the section that a key belongs to
 abbrev pub sectionFor : Kind → Head → List ℕ → List ℕ → ℕ
-sectionFor kind head key bytes = separatorsBelow kind key bytes 0 (slots kind (head .settings .alpha) bytes)
+sectionFor kind head key bytes = separatorsBelow kind key bytes 0 (slots kind bytes)
 
 -- the number of the block of that section, 0 if it has none
 abbrev pub nextBlock : Kind → Head → List ℕ → List ℕ → ℕ
@@ -51,7 +52,7 @@ walk kind head key blocks (suc steps) b reads =
     andThen (treeBlockAt kind head blocks b) λ bytes.
     let next = nextBlock kind head key bytes in
     let onward = walk kind head key blocks steps next (reads + 1) in
-    foundOr (standing kind key (slots kind (head .settings .alpha) bytes)) (reads + 1) next onward
+    foundOr (standing kind key (slots kind bytes)) (reads + 1) next onward
 
 -- block 0 is read, and then the path from block 1 on; a tree of no blocks has no entry
 abbrev pub search : Kind → List ℕ → List (List ℕ) → Answer Found

@@ -11,7 +11,8 @@ use Rattle.std.specs.declared.result.Result.the-variants.{Ok, Err}
 use Rattle.std.specs.shelf.Lists.{sumBy}
 use Rattle.kinds.specs.Kind.{Kind}
 use Rattle.image.specs.Messages.{keyOf}
-use Rattle.image.specs.Reading.{Head, slots, sectionsOf}
+use Rattle.image.specs.declared.head.Head.{Head}
+use Rattle.image.specs.Reading.{slots, sectionsOf}
 use Rattle.chapter.specs.Answers.{Answer, andThen, need, headOf}
 use Rattle.chapter.specs.LookUp.{Found, sectionFor, nextBlock, treeBlockAt, search}
 
@@ -23,7 +24,7 @@ measureBelow kind key (m ∷ ms) = cond (isLt (kind .keyOrder (keyOf kind m) key
 -- what a block has before the key: its entries below it, and the sections left of the one that the key belongs to
 abbrev pub linesIn : Kind → Head → List ℕ → List ℕ → ℕ
 linesIn kind head key bytes =
-    measureBelow kind key (slots kind (head .settings .alpha) bytes) + sumBy (λ s. s .measure) (take (sectionFor kind head key bytes) (sectionsOf kind (head .settings .alpha) bytes))
+    measureBelow kind key (slots kind bytes) + sumBy (λ s. s .measure) (take (sectionFor kind head key bytes) (sectionsOf kind (head .settings .alpha) bytes))
 
 -- summed along the path from block b to its end, past the key's own block
 abbrev pub linesBefore : Kind → Head → List ℕ → List (List ℕ) → (steps b lines : ℕ) → Answer ℕ

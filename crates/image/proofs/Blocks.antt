@@ -23,7 +23,8 @@ use Rattle.tree.specs.Tree.{Section, Node}
 use Rattle.image.specs.Image.{filled, blockOf, maskOf, sectionRecord, treeBlock}
 use Rattle.image.specs.Laws.{Block, sectionSays, SectionFits, NodeFits, ReadsBack, TreeBlockLaws, Tree-block-reads-back}
 use Rattle.image.specs.Messages.{totalMeasure}
-use Rattle.image.specs.Reading.{SectionFields, sectionFields, field, mask, activeAt, sectionCount, slots, slot, sectionAt, sectionsOf}
+use Rattle.image.specs.declared.section.SectionFields.{SectionFields}
+use Rattle.image.specs.Reading.{sectionFields, field, mask, activeAt, sectionCount, slots, slot, sectionAt, sectionsOf}
 use Rattle.image.specs.Settings.{alphaFits}
 
 pub length-filled : {X : Type 0} (x : X) (n : ℕ) (xs : List X) → length xs ≤ n → length (filled x n xs) ≡ n
@@ -147,7 +148,7 @@ module _ (kind : Kind) (alpha : ℕ) (node : Node (List ℕ)) (lawful : Lawful k
   regrouped : laid ++ zeros ≡ messageBytes ++ (unused ++ (records ++ zeros))
   regrouped = simp append-assoc
 
-  slot-back : (i : ℕ) → i < length (node .entries) → slot kind alpha (treeBlock kind alpha node) i ≡ getD (node .entries) i []
+  slot-back : (i : ℕ) → i < length (node .entries) → slot kind (treeBlock kind alpha node) i ≡ getD (node .entries) i []
   slot-back i lt =
       part-after (i * kind .width) (kind .width)
       ∙ ap (part (i * kind .width) (kind .width)) regrouped
@@ -188,7 +189,7 @@ module _ (kind : Kind) (alpha : ℕ) (node : Node (List ℕ)) (lawful : Lawful k
     active = λ i lt. ap (λ m. eqb (m / 2 ^ i % 2) 1) mask-back ∙ bit-of-mask (node .active) i lt;
     weight = number-le 2 (node .weight) (fits .weight);
     parent = number-le 2 (node .parent) (fits .parent);
-    messages = sym (fill-by-all (slot kind alpha (treeBlock kind alpha node)) (node .entries) _ [] refl (λ i lt. sym (slot-back i lt)));
+    messages = sym (fill-by-all (slot kind (treeBlock kind alpha node)) (node .entries) _ [] refl (λ i lt. sym (slot-back i lt)));
     sections = sections-back;
   }
 

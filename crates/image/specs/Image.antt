@@ -8,9 +8,9 @@ use Rattle.std.specs.shelf.Lists.{joined}
 use Rattle.fields.specs.Numbers.{le}
 use Rattle.kinds.specs.Kind.{Kind}
 use Rattle.tree.specs.Tree.{Section, Node, tree}
-pub use Rattle.image.specs.declared.head.Counts.{Counts}
+use Rattle.image.specs.declared.head.Counts.{Counts}
 use Rattle.image.specs.Messages.{before, totalMeasure}
-use Rattle.image.specs.Settings.{Settings}
+use Rattle.image.specs.declared.settings.Settings.{Settings}
 
 -- filled up with x to n elements
 abbrev pub filled : {X : Type 0} → X → ℕ → List X → List X

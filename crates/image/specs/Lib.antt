@@ -4,3 +4,4 @@ pub mod Image
 pub mod Reading
 pub mod Laws
 pub mod Coded
+pub mod View

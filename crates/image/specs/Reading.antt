@@ -13,11 +13,13 @@ use Rattle.std.specs.declared.option.Option.the-variants.{None, Some}
 use Rattle.std.specs.shelf.Text.{sameBytes}
 use Rattle.fields.specs.Numbers.{number, part}
 use Rattle.kinds.specs.Kind.{Kind}
-pub use Rattle.image.specs.declared.head.Head.{Head}
-pub use Rattle.image.specs.declared.section.SectionFields.{SectionFields}
-use Rattle.image.specs.Image.{headMark, headVersion, Counts}
+use Rattle.image.specs.declared.head.Head.{Head}
+use Rattle.image.specs.declared.section.SectionFields.{SectionFields}
+use Rattle.image.specs.declared.head.Counts.{Counts}
+use Rattle.image.specs.Image.{headMark, headVersion}
 use Rattle.image.specs.Messages.{keyOf}
-use Rattle.image.specs.Settings.{Settings, settingsFit}
+use Rattle.image.specs.declared.settings.Settings.{Settings}
+use Rattle.image.specs.Settings.{settingsFit}
 
 -- the number in the k bytes from an offset on
 abbrev pub field : (at k : ℕ) → List ℕ → ℕ
@@ -70,7 +72,12 @@ activeAt bytes i = eqb (mask bytes / 2 ^ i % 2) 1
 abbrev pub sectionFields : List ℕ → SectionFields
 sectionFields bytes = record { number = field 0 2 bytes; weight = field 2 2 bytes; measure = field 4 4 bytes }
 
-module _ (kind : Kind) (alpha : ℕ) where
+-- section numbers of block b lead onward, to a block of the tree, or nowhere; a chapter has no more measure than 2,000 entries
+-- of 1,000 each
+abbrev pub sectionSound : (u b : ℕ) → SectionFields → Bool
+sectionSound u b s = (eqb (s .number) 0 || (ltb b (s .number) && leb (s .number) u)) && leb (s .measure) 2000000
+
+module _ (kind : Kind) where
   -- the message in slot i
   abbrev pub slot : List ℕ → ℕ → List ℕ
   slot bytes i = part (8 + i * kind .width) (kind .width) bytes
@@ -79,6 +86,13 @@ module _ (kind : Kind) (alpha : ℕ) where
   abbrev pub slots : List ℕ → List (List ℕ)
   slots bytes = map (slot bytes) (counting 0 (entryCount bytes))
 
+  -- the keys strictly rise
+  abbrev pub keysRise : List (List ℕ) → Bool
+  keysRise [] = true
+  keysRise (m ∷ []) = true
+  keysRise (m ∷ l ∷ ms) = isLt (kind .keyOrder (keyOf kind m) (keyOf kind l)) && keysRise (l ∷ ms)
+
+module _ (kind : Kind) (alpha : ℕ) where
   -- the record of section i
   abbrev pub sectionAt : List ℕ → ℕ → SectionFields
   sectionAt bytes i = sectionFields (part (8 + alpha * kind .width + i * 8) 8 bytes)
@@ -87,19 +101,8 @@ module _ (kind : Kind) (alpha : ℕ) where
   abbrev pub sectionsOf : List ℕ → List SectionFields
   sectionsOf bytes = map (sectionAt bytes) (counting 0 (sectionCount bytes))
 
-  -- the keys strictly rise
-  abbrev pub keysRise : List (List ℕ) → Bool
-  keysRise [] = true
-  keysRise (m ∷ []) = true
-  keysRise (m ∷ l ∷ ms) = isLt (kind .keyOrder (keyOf kind m) (keyOf kind l)) && keysRise (l ∷ ms)
-
-  -- section numbers of block b lead onward, to a block of the tree, or nowhere; a chapter has no more measure than 2,000 entries
-  -- of 1,000 each
-  abbrev pub sectionSound : (u b : ℕ) → SectionFields → Bool
-  sectionSound u b s = (eqb (s .number) 0 || (ltb b (s .number) && leb (s .number) u)) && leb (s .measure) 2000000
-
   -- block b of a tree of u blocks is well formed: from 1 to alpha entries, the right kind, valid messages with strictly rising
   -- keys, no mask bit past the entries, and sound sections
   abbrev pub wellFormed : (u b : ℕ) → List ℕ → Bool
   wellFormed u b bytes =
-      leb 1 (entryCount bytes) && (leb (entryCount bytes) alpha && (eqb (getD bytes 1 0) (kind .number) && (every (λ m. not (isSome (kind .invalid m))) (slots bytes) && (keysRise (slots bytes) && (ltb (mask bytes) (2 ^ entryCount bytes) && every (sectionSound u b) (sectionsOf bytes))))))
+      leb 1 (entryCount bytes) && (leb (entryCount bytes) alpha && (eqb (getD bytes 1 0) (kind .number) && (every (λ m. not (isSome (kind .invalid m))) (slots kind bytes) && (keysRise kind (slots kind bytes) && (ltb (mask bytes) (2 ^ entryCount bytes) && every (sectionSound u b) (sectionsOf bytes))))))

@@ -4,7 +4,7 @@ use Prim.Native.Nat.{ℕ, _+_, _*_}
 use lib.Dec.{leb}
 use Rattle.std.specs.declared.option.Option.{Option}
 use Rattle.std.specs.declared.option.Option.the-variants.{None, Some}
-pub use Rattle.image.specs.declared.settings.Settings.{Settings}
+use Rattle.image.specs.declared.settings.Settings.{Settings}
 
 -- from 1 to 16, and so that eight bytes, the slots for messages of the width, and one more section record than slots fit
 -- into a block

@@ -22,7 +22,9 @@ pub enum Setting {
 }
 
 const MOST_IN_BLOCK: usize = 16;
+
 const MOST: usize = 2_000;
+
 const BLOCK_SIZE: usize = 256;
 
 // Whether a block has room for so many slots of the width, and one more section record than slots.
