@@ -45,3 +45,7 @@ pub part-is : {X : Type 0} (xs : List X) (at k from count : ℕ) → from ≡ mi
 part-is xs at k from count f c =
     let rest : take (length xs - from) (drop from xs) ≡ drop at xs = take-rest xs from ∙ ap (λ n. drop n xs) f ∙ drop-min at xs in
     rw (sub-zero, c, rest) (take-min k (drop at xs))
+
+-- offsets that are the same up to the end, or both past it
+pub part-far : {X : Type 0} (xs : List X) (at from k : ℕ) → min at (length xs) ≡ min from (length xs) → part at k xs ≡ part from k xs
+part-far xs at from k same = ap (take k) (sym (drop-min at xs) ∙ ap (λ n. drop n xs) same ∙ drop-min from xs)

@@ -4,7 +4,7 @@ ghost use Rattle.image.specs.Reading.{activeAt, entryCount, mask as maskIn, se
 ghost use Rattle.image.specs.View.{alphaOf, bytesOf};
 use crate::section::SectionFields;
 use fields::byte_at;
-use fields::slice_at;
+use fields::piece_at;
 use fields::u16_at;
 use fields::u32_at;
 use kinds::EntryKind;
@@ -13,12 +13,12 @@ use std::marker::PhantomData;
 // The bytes as a block of a chapter of the kind, which has so many slots in a block.
 pub struct TreeBlock<'a, K> {
     bytes: &'a [u8],
-    alpha: usize,
+    alpha: u8,
     kind: PhantomData<K>,
 }
 
 impl<'a, K: EntryKind> TreeBlock<'a, K> {
-    pub fn new(bytes: &'a [u8], alpha: usize) -> TreeBlock<'a, K>
+    pub fn new(bytes: &'a [u8], alpha: u8) -> TreeBlock<'a, K>
         ensures bytes { λ r. ⌜ bytesOf r ≡ now (bytes .entry) ⌝ }
         ensures alpha { λ r. ⌜ alphaOf r ≡ alpha ⌝ }
     {
@@ -33,5 +33,46 @@ impl<'a, K: EntryKind> TreeBlock<'a, K> {
         ensures { λ r. ⌜ r ≡ entryCount (bytesOf (now (self .entry))) ⌝ }
     {
         usize::from(byte_at(self.bytes, 0))
+    }
+
+    pub fn mask(&self) -> u16
+        ensures { λ r. ⌜ r ≡ maskIn (bytesOf (now (self .entry))) ⌝ }
+    {
+        u16_at(self.bytes, 2)
+    }
+
+    // The number of sections: the mask's ones are the active separators, one fewer.
+    pub fn section_count(&self) -> usize
+        ensures { λ r. ⌜ r ≡ sectionCount (bytesOf (now (self .entry))) ⌝ }
+    {
+        self.mask().count_ones() as usize + 1
+    }
+
+    // Whether slot i has an active separator.
+    pub fn is_active(&self, i: usize) -> bool
+        ensures { λ r. ⌜ r ≡ activeAt (bytesOf (now (self .entry))) i ⌝ }
+    {
+        let mask = self.mask();
+        i < 16 && (mask >> i) & 1 == 1
+    }
+
+    // The message in slot i, where it lies in the block.
+    pub fn slot(&self, i: usize) -> &'a [u8]
+        ensures { λ r. ⌜ now r ≡ slotIn kind (bytesOf (now (self .entry))) i ⌝ }
+    {
+        piece_at(self.bytes, 8, K::message_width(), i)
+    }
+
+    // What the record of section i says.
+    pub fn section(&self, i: usize) -> SectionFields
+        ensures { λ r. ⌜ r ≡ sectionAt kind (alphaOf (now (self .entry))) (bytesOf (now (self .entry))) i ⌝ }
+    {
+        let after_slots = 8 + usize::from(self.alpha) * K::message_width();
+        let record = piece_at(self.bytes, after_slots, 8, i);
+        SectionFields {
+            number: u16_at(record, 0),
+            weight: u16_at(record, 2),
+            measure: u32_at(record, 4),
+        }
     }
 }

@@ -27,7 +27,7 @@ pub trait BlockStore {
     fn count(&self) -> usize
         ensures { λ r. ⌜ r ≡ length (blocks (now (self .entry))) ⌝ };
 
-    // Fills the buffer with a block. A store may move what it needs to read, as a place in a file, and no block.
+    // Fills the buffer with a block. A store may change what it keeps for reading, as a cache, and no block.
     fn read(&mut self, block: usize, buffer: &mut [u8]) -> Result<(), StoreFault>
         ensures answer { λ r. ⌜ mapped (λ u. u) coded r ≡ readAnswer (blocks (now (self .entry))) block (now (buffer .entry)) ⌝ }
         ensures buffer { λ _. ⌜ now (buffer .exit) ≡ readBuffer (blocks (now (self .entry))) block (now (buffer .entry)) ⌝ }

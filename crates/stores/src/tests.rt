@@ -1,4 +1,9 @@
 // Piles of stores, read, written and taken apart at their edges.
+ghost use mathlib.Core.Path.{_≡_};
+ghost use mathlib.Core.List.{_++_};
+ghost use lib.ListN.{take, drop};
+ghost use Rattle.stores.specs.Blocks.{writeBlocks};
+ghost use Rattle.stores.specs.Stores.{part};
 use crate::faults::*;
 use crate::memories::*;
 use crate::pairs::*;
@@ -69,6 +74,16 @@ fn takes<S: BlockStore>(
     holds(store, after)
 }
 
+// A shelf on a shelf is written and taken apart: the clauses of the calls give every block of the store at the bottom.
+fn written_through<S: BlockStore>(store: S, buffer: &[u8]) -> S
+    ensures blocks { λ r. ⌜ blocks r ≡ take 1 (blocks store) ++ (take 2 (part 1 4 (blocks store)) ++ writeBlocks (part 2 9 (part 1 4 (blocks store))) 0 (now (buffer .entry)) ++ drop 11 (part 1 4 (blocks store))) ++ drop 5 (blocks store) ⌝ }
+    ensures rest { λ r. ⌜ rest r ≡ rest store ⌝ }
+{
+    let mut shelf = Shelf::new(Shelf::new(store, 1, 4), 2, 9);
+    let _ = shelf.write(0, buffer);
+    shelf.into_store().into_store()
+}
+
 #[test]
 fn memory_has_whole_blocks(rt: LibcRuntime) -> Result<(), Fail> {
     for (blocks, rest, filled) in [
@@ -91,6 +106,8 @@ fn shelves_are_cut_to_what_lies_there(rt: LibcRuntime) -> Result<(), Fail> {
     holds(&mut shelf(rt.alloc(), usize::MAX, usize::MAX)?, &[])?;
     holds(&mut shelf(rt.alloc(), 5, usize::MAX)?, &[5])?;
     takes(&mut shelf(rt.alloc(), 2, 3)?, &[2, 3, 4], 2, 9, &[2, 3, 9])?;
+    let mut below = written_through(numbered(rt.alloc(), 6, 0)?, &[9; BLOCK_SIZE]);
+    holds(&mut below, &[0, 1, 2, 9, 4, 5])?;
     takes(&mut shelf(rt.alloc(), 4, 10)?, &[4, 5], 0, 9, &[9, 5])
 }
 
