@@ -2,3 +2,4 @@ pub mod Blocks
 pub mod Heads
 pub mod Drawn
 pub mod Images
+pub mod Loops

@@ -86,11 +86,17 @@ module _ (kind : Kind) where
   abbrev pub slots : List ℕ → List (List ℕ)
   slots bytes = map (slot bytes) (counting 0 (entryCount bytes))
 
-  -- the keys strictly rise
+  -- each key is below the next, the first of them after the key of `last`
+  abbrev pub keysRiseFrom : (last : List ℕ) → List (List ℕ) → Bool
+  keysRiseFrom last [] = true
+  keysRiseFrom last (m ∷ ms) = isLt (kind .keyOrder (keyOf kind last) (keyOf kind m)) && keysRiseFrom m ms
+
   abbrev pub keysRise : List (List ℕ) → Bool
   keysRise [] = true
-  keysRise (m ∷ []) = true
-  keysRise (m ∷ l ∷ ms) = isLt (kind .keyOrder (keyOf kind m) (keyOf kind l)) && keysRise (l ∷ ms)
+  keysRise (m ∷ ms) = keysRiseFrom m ms
+
+  abbrev pub messageValid : List ℕ → Bool
+  messageValid m = not (isSome (kind .invalid m))
 
 module _ (kind : Kind) (alpha : ℕ) where
   -- the record of section i
@@ -105,4 +111,4 @@ module _ (kind : Kind) (alpha : ℕ) where
   -- keys, no mask bit past the entries, and sound sections
   abbrev pub wellFormed : (u b : ℕ) → List ℕ → Bool
   wellFormed u b bytes =
-      leb 1 (entryCount bytes) && (leb (entryCount bytes) alpha && (eqb (getD bytes 1 0) (kind .number) && (every (λ m. not (isSome (kind .invalid m))) (slots kind bytes) && (keysRise kind (slots kind bytes) && (ltb (mask bytes) (2 ^ entryCount bytes) && every (sectionSound u b) (sectionsOf bytes))))))
+      leb 1 (entryCount bytes) && (leb (entryCount bytes) alpha && (eqb (getD bytes 1 0) (kind .number) && (every (messageValid kind) (slots kind bytes) && (keysRise kind (slots kind bytes) && (ltb (mask bytes) (2 ^ entryCount bytes) && every (sectionSound u b) (sectionsOf bytes))))))

@@ -1,6 +1,6 @@
 // A tree block, read from any bytes.
 ghost use mathlib.Core.Path.{_≡_};
-ghost use Rattle.image.specs.Reading.{activeAt, entryCount, mask as maskIn, sectionAt, sectionCount, slot as slotIn};
+ghost use Rattle.image.specs.Reading.{activeAt, entryCount, every, mask as maskIn, messageValid, sectionAt, sectionCount, sectionSound, sectionsOf, slot as slotIn, slots};
 ghost use Rattle.image.specs.View.{alphaOf, bytesOf};
 use crate::section::SectionFields;
 use fields::byte_at;
@@ -74,5 +74,27 @@ impl<'a, K: EntryKind> TreeBlock<'a, K> {
             weight: u16_at(record, 2),
             measure: u32_at(record, 4),
         }
+    }
+
+    fn messages_valid(&self) -> bool
+        ensures { λ r. ⌜ r ≡ every (messageValid kind) (slots kind (bytesOf (now (self .entry)))) ⌝ }
+    {
+        for i in 0..self.entries() {
+            if K::invalid_at(self.slot(i)).is_some() {
+                return false;
+            }
+        }
+        true
+    }
+
+    fn sections_sound(&self, tree_blocks: usize, number: usize) -> bool
+        ensures { λ r. ⌜ r ≡ every (sectionSound «tree_blocks» number) (sectionsOf kind (alphaOf (now (self .entry))) (bytesOf (now (self .entry)))) ⌝ }
+    {
+        for i in 0..self.section_count() {
+            if !self.section(i).is_sound(tree_blocks, number) {
+                return false;
+            }
+        }
+        true
     }
 }
