@@ -3,3 +3,4 @@ pub mod Heads
 pub mod Drawn
 pub mod Images
 pub mod Loops
+pub mod Rising

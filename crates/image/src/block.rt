@@ -1,10 +1,14 @@
 // A tree block, read from any bytes.
 ghost use mathlib.Core.Path.{_≡_};
-ghost use Rattle.image.specs.Reading.{activeAt, entryCount, every, mask as maskIn, messageValid, sectionAt, sectionCount, sectionSound, sectionsOf, slot as slotIn, slots};
+ghost use Prim.Native.Nat.{_^_};
+ghost use lib.Dec.{ltb};
+ghost use Rattle.image.specs.Messages.{keyOf};
+ghost use Rattle.image.specs.Reading.{activeAt, entryCount, every, keysRise, mask as maskIn, messageValid, sectionAt, sectionCount, sectionSound, sectionsOf, slot as slotIn, slots};
 ghost use Rattle.image.specs.View.{alphaOf, bytesOf};
 use crate::section::SectionFields;
 use fields::byte_at;
 use fields::piece_at;
+use fields::slice_at;
 use fields::u16_at;
 use fields::u32_at;
 use kinds::EntryKind;
@@ -97,4 +101,34 @@ impl<'a, K: EntryKind> TreeBlock<'a, K> {
         }
         true
     }
+
+    fn keys_rise(&self) -> bool
+        ensures { λ r. ⌜ r ≡ keysRise kind (slots kind (bytesOf (now (self .entry)))) ⌝ }
+    {
+        let mut last = self.slot(0);
+        for i in 1..self.entries() {
+            let next = self.slot(i);
+            if !K::compare_keys(key_of::<K>(last), key_of::<K>(next)).is_lt() {
+                return false;
+            }
+            last = next;
+        }
+        true
+    }
+
+    // No mask bit stands past the entries.
+    fn mask_fits(&self) -> bool
+        ensures { λ r. ⌜ r ≡ ltb (maskIn (bytesOf (now (self .entry)))) (2 ^ entryCount (bytesOf (now (self .entry)))) ⌝ }
+    {
+        let entries = self.entries();
+        let mask = u32::from(self.mask());
+        entries >= 16 || mask < 1 << entries
+    }
+}
+
+// The key is the front of a message.
+pub fn key_of<K: EntryKind>(message: &[u8]) -> &[u8]
+    ensures { λ r. ⌜ now r ≡ keyOf kind (now (message .entry)) ⌝ }
+{
+    slice_at(message, 0, K::key_width())
 }
