@@ -107,8 +107,12 @@ module _ (kind : Kind) (alpha : ℕ) where
   abbrev pub sectionsOf : List ℕ → List SectionFields
   sectionsOf bytes = map (sectionAt bytes) (counting 0 (sectionCount bytes))
 
+  -- from 1 to alpha entries, of the right kind
+  abbrev pub ofKind : List ℕ → Bool
+  ofKind bytes = leb 1 (entryCount bytes) && (leb (entryCount bytes) alpha && eqb (getD bytes 1 0) (kind .number))
+
   -- block b of a tree of u blocks is well formed: from 1 to alpha entries, the right kind, valid messages with strictly rising
   -- keys, no mask bit past the entries, and sound sections
   abbrev pub wellFormed : (u b : ℕ) → List ℕ → Bool
   wellFormed u b bytes =
-      leb 1 (entryCount bytes) && (leb (entryCount bytes) alpha && (eqb (getD bytes 1 0) (kind .number) && (every (messageValid kind) (slots kind bytes) && (keysRise kind (slots kind bytes) && (ltb (mask bytes) (2 ^ entryCount bytes) && every (sectionSound u b) (sectionsOf bytes))))))
+      ofKind bytes && (every (messageValid kind) (slots kind bytes) && (keysRise kind (slots kind bytes) && (ltb (mask bytes) (2 ^ entryCount bytes) && every (sectionSound u b) (sectionsOf bytes))))

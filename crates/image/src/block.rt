@@ -3,7 +3,7 @@ ghost use mathlib.Core.Path.{_≡_};
 ghost use Prim.Native.Nat.{_^_};
 ghost use lib.Dec.{ltb};
 ghost use Rattle.image.specs.Messages.{keyOf};
-ghost use Rattle.image.specs.Reading.{activeAt, entryCount, every, keysRise, mask as maskIn, messageValid, sectionAt, sectionCount, sectionSound, sectionsOf, slot as slotIn, slots};
+ghost use Rattle.image.specs.Reading.{activeAt, entryCount, every, keysRise, mask as maskIn, messageValid, ofKind, sectionAt, sectionCount, sectionSound, sectionsOf, slot as slotIn, slots, wellFormed};
 ghost use Rattle.image.specs.View.{alphaOf, bytesOf};
 use crate::section::SectionFields;
 use fields::byte_at;
@@ -114,6 +114,27 @@ impl<'a, K: EntryKind> TreeBlock<'a, K> {
             last = next;
         }
         true
+    }
+
+    // Block `number` of a chapter of so many tree blocks may stand in its tree.
+    pub fn is_well_formed(&self, tree_blocks: usize, number: usize) -> bool
+        ensures { λ r. ⌜ r ≡ wellFormed kind (alphaOf (now (self .entry))) «tree_blocks» number (bytesOf (now (self .entry))) ⌝ }
+    {
+        self.is_of_kind()
+            && self.messages_valid()
+            && self.keys_rise()
+            && self.mask_fits()
+            && self.sections_sound(tree_blocks, number)
+    }
+
+    // From 1 to alpha entries of the kind.
+    fn is_of_kind(&self) -> bool
+        ensures { λ r. ⌜ r ≡ ofKind kind (alphaOf (now (self .entry))) (bytesOf (now (self .entry))) ⌝ }
+    {
+        let entries = self.entries();
+        1 <= entries
+            && entries <= usize::from(self.alpha)
+            && byte_at(self.bytes, 1) == K::kind_number()
     }
 
     // No mask bit stands past the entries.
