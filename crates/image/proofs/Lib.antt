@@ -4,3 +4,4 @@ pub mod Drawn
 pub mod Images
 pub mod Loops
 pub mod Rising
+pub mod Seeking

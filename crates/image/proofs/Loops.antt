@@ -4,11 +4,21 @@ use mathlib.Core.Bool.{Bool, true, false, _&&_}
 use mathlib.Core.List.{List, [], _∷_, map}
 use Prim.Native.Nat.{ℕ, _+_, _≤_, _<_}
 use native.Mathlib.Omega.{arith}
-use lib.ListN.{length, getD, drop}
+use lib.ListN.{drop}
 use Rattle.std.specs.Iters.{counting}
 use Rattle.std.proofs.shelf.Counted.{length-map-counting, getD-map-counting}
 use Rattle.std.proofs.shelf.Lists.{at-drop-more, at-drop-all}
 use Rattle.image.specs.Reading.{every}
+
+-- a function of what is left of such a list, one step on and at the end
+module _ {X Y : Type 0} (f : ℕ → X) (n : ℕ) (F : List X → Y) where
+  pub from-more : (i : ℕ) → i < n → F (drop i (map f (counting 0 n))) ≡ F (f i ∷ drop (i + 1) (map f (counting 0 n)))
+  from-more i lt =
+      let xs = map f (counting 0 n) in
+      at-drop-more F xs i (f i) (omega (arith, length-map-counting f 0 n)) ∙ ap (λ x. F (x ∷ drop (i + 1) xs)) (getD-map-counting f 0 n i i (f i) lt (omega arith))
+
+  pub from-all : (i : ℕ) → n ≤ i → F (drop i (map f (counting 0 n))) ≡ F []
+  from-all i past = at-drop-all F (map f (counting 0 n)) i (omega (arith, length-map-counting f 0 n))
 
 -- the elements from i on pass exactly if all do
 pub record Passed {X : Type 0} (test : X → Bool) (f : ℕ → X) (n i : ℕ) (all : Bool) : Type 0 where
@@ -16,11 +26,7 @@ pub record Passed {X : Type 0} (test : X → Bool) (f : ℕ → X) (n i : ℕ) (
 
 module _ {X : Type 0} {test : X → Bool} {f : ℕ → X} {n i : ℕ} {all : Bool} (p : Passed test f n i all) where
   here : i < n → (test (f i) && every test (drop (i + 1) (map f (counting 0 n)))) ≡ all
-  here lt =
-      let xs = map f (counting 0 n) in
-      let long : i < length xs = omega (arith, length-map-counting f 0 n) in
-      let same : getD xs i (f i) ≡ f i = getD-map-counting f 0 n i i (f i) lt (omega arith) in
-      ap (λ x. test x && every test (drop (i + 1) xs)) (sym same) ∙ sym (at-drop-more (every test) xs i (f i) long) ∙ p .is
+  here lt = sym (from-more f n (every test) i lt) ∙ p .is
 
   pub passed-more : i < n → test (f i) ≡ true → Passed test f n (i + 1) all
   passed-more lt passes = record { is = ap (λ t. t && every test (drop (i + 1) (map f (counting 0 n)))) (sym passes) ∙ here lt }
@@ -29,4 +35,4 @@ module _ {X : Type 0} {test : X → Bool} {f : ℕ → X} {n i : ℕ} {all : Boo
   passed-not lt fails = ap (λ t. t && every test (drop (i + 1) (map f (counting 0 n)))) (sym fails) ∙ here lt
 
   pub passed-all : n ≤ i → true ≡ all
-  passed-all past = sym (at-drop-all (every test) (map f (counting 0 n)) i (omega (arith, length-map-counting f 0 n))) ∙ p .is
+  passed-all past = sym (from-all f n (every test) i past) ∙ p .is

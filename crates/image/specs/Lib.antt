@@ -5,3 +5,4 @@ pub mod Reading
 pub mod Laws
 pub mod Coded
 pub mod View
+pub mod Walk

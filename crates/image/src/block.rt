@@ -2,8 +2,10 @@
 ghost use mathlib.Core.Path.{_≡_};
 ghost use Prim.Native.Nat.{_^_};
 ghost use lib.Dec.{ltb};
+ghost use Rattle.std.specs.Options.{mapped};
 ghost use Rattle.image.specs.Messages.{keyOf};
 ghost use Rattle.image.specs.Reading.{activeAt, entryCount, every, keysRise, mask as maskIn, messageValid, ofKind, sectionAt, sectionCount, sectionSound, sectionsOf, slot as slotIn, slots, wellFormed};
+ghost use Rattle.image.specs.Walk.{inBlock};
 ghost use Rattle.image.specs.View.{alphaOf, bytesOf};
 use crate::section::SectionFields;
 use fields::byte_at;
@@ -12,6 +14,7 @@ use fields::slice_at;
 use fields::u16_at;
 use fields::u32_at;
 use kinds::EntryKind;
+use std::cmp::Ordering;
 use std::marker::PhantomData;
 
 // The bytes as a block of a chapter of the kind, which has so many slots in a block.
@@ -78,6 +81,21 @@ impl<'a, K: EntryKind> TreeBlock<'a, K> {
             weight: u16_at(record, 2),
             measure: u32_at(record, 4),
         }
+    }
+
+    // The message of the key, if the block has it.
+    pub fn find(&self, key: &[u8]) -> Option<&'a [u8]>
+        ensures { λ r. ⌜ mapped now r ≡ inBlock kind (now (key .entry)) (bytesOf (now (self .entry))) ⌝ }
+    {
+        for i in 0..self.entries() {
+            let message = self.slot(i);
+            match K::compare_keys(key_of::<K>(message), key) {
+                Ordering::Less => {}
+                Ordering::Equal => return Some(message),
+                Ordering::Greater => return None,
+            }
+        }
+        None
     }
 
     fn messages_valid(&self) -> bool
