@@ -5,3 +5,4 @@ pub mod Images
 pub mod Loops
 pub mod Rising
 pub mod Seeking
+pub mod Separating

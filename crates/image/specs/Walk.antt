@@ -15,11 +15,14 @@ module _ (kind : Kind) (key : List ℕ) where
   abbrev pub inBlock : List ℕ → Option (List ℕ)
   inBlock bytes = standing kind key (slots kind bytes)
 
-  -- how many active separators, among the messages from slot i on, are below the key
+  -- the message in slot i is an active separator, and below the key
+  abbrev pub separatorBelow : List ℕ → (i : ℕ) → List ℕ → Bool
+  separatorBelow bytes i m = activeAt bytes i && isLt (kind .keyOrder (keyOf kind m) key)
+
+  -- how many such there are among the messages from slot i on
   abbrev pub separatorsBelow : List ℕ → (i : ℕ) → List (List ℕ) → ℕ
   separatorsBelow bytes i [] = 0
-  separatorsBelow bytes i (m ∷ ms) =
-      cond (activeAt bytes i && isLt (kind .keyOrder (keyOf kind m) key)) 1 0 + separatorsBelow bytes (i + 1) ms
+  separatorsBelow bytes i (m ∷ ms) = cond (separatorBelow bytes i m) 1 0 + separatorsBelow bytes (i + 1) ms
 
   -- the section that the key belongs to, counted from 0
   abbrev pub sectionFor : List ℕ → ℕ

@@ -5,7 +5,7 @@ ghost use lib.Dec.{ltb};
 ghost use Rattle.std.specs.Options.{mapped};
 ghost use Rattle.image.specs.Messages.{keyOf};
 ghost use Rattle.image.specs.Reading.{activeAt, entryCount, every, keysRise, mask as maskIn, messageValid, ofKind, sectionAt, sectionCount, sectionSound, sectionsOf, slot as slotIn, slots, wellFormed};
-ghost use Rattle.image.specs.Walk.{inBlock};
+ghost use Rattle.image.specs.Walk.{inBlock, nextBlock, sectionFor, separatorBelow};
 ghost use Rattle.image.specs.View.{alphaOf, bytesOf};
 use crate::section::SectionFields;
 use fields::byte_at;
@@ -96,6 +96,31 @@ impl<'a, K: EntryKind> TreeBlock<'a, K> {
             }
         }
         None
+    }
+
+    // Slot i has an active separator that is below the key.
+    fn separates(&self, i: usize, key: &[u8]) -> bool
+        ensures { λ r. ⌜ r ≡ separatorBelow kind (now (key .entry)) (bytesOf (now (self .entry))) i (slotIn kind (bytesOf (now (self .entry))) i) ⌝ }
+    {
+        self.is_active(i) && K::compare_keys(key_of::<K>(self.slot(i)), key).is_lt()
+    }
+
+    // The section that the key belongs to, from 0: so many active separators are below it.
+    pub fn section_for(&self, key: &[u8]) -> usize
+        ensures { λ r. ⌜ r ≡ sectionFor kind (now (key .entry)) (bytesOf (now (self .entry))) ⌝ }
+    {
+        let mut below = 0;
+        for i in 0..self.entries() {
+            below += usize::from(self.separates(i, key));
+        }
+        below
+    }
+
+    // The number of the block of that section, 0 if it has none.
+    pub fn next_block(&self, key: &[u8]) -> u16
+        ensures { λ r. ⌜ r ≡ nextBlock kind (now (key .entry)) (alphaOf (now (self .entry))) (bytesOf (now (self .entry))) ⌝ }
+    {
+        self.section(self.section_for(key)).number
     }
 
     fn messages_valid(&self) -> bool
