@@ -18,6 +18,7 @@ use std::cmp::Ordering;
 use std::marker::PhantomData;
 
 // The bytes as a block of a chapter of the kind, which has so many slots in a block.
+#[derive_where(Clone, Copy)]
 pub struct TreeBlock<'a, K> {
     bytes: &'a [u8],
     alpha: u8,
