@@ -1,0 +1,4 @@
+pub mod Apart
+pub mod Choosing
+pub mod Filling
+pub mod Order

@@ -1,0 +1,4 @@
+pub mod Bounding
+pub mod Drawing
+pub mod Rows
+pub mod Steps

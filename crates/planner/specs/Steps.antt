@@ -1,0 +1,37 @@
+-- What the steps of planning a block leave to the next. Assumes nothing.
+use mathlib.Core.Path.{_≡_}
+use mathlib.Core.Bool.{Bool, true}
+use mathlib.Core.List.{List, [], map}
+use Prim.Native.Nat.{ℕ, _+_, _<_, _≤_}
+use lib.ListN.{length, getD}
+use Rattle.std.specs.shelf.Lists.{Has, kept-by}
+use Rattle.tree.specs.Tree.{Node, drawnBefore}
+use Rattle.planner.specs.declared.bounds.Bounds.{Bounds}
+use Rattle.planner.specs.Bounding.{inBlock, separates}
+
+-- the first n of `chosen` are ranks of xs, and before the one at place j just j of xs are drawn
+abbrev pub Earliest : (before : ℕ → ℕ → Bool) (xs : List ℕ) (n : ℕ) (chosen : List ℕ) → Type 0
+Earliest before xs n chosen = (j : ℕ) → j < n → Has xs (getD chosen j 0) × (drawnBefore before xs (getD chosen j 0) ≡ j)
+
+-- a place at `at` made for x among the first `count` of `old`: those before it stand as they stood, those from it on are drawn
+-- after x, and stand one place higher if that is below the limit
+pub record PlaceMade (before : ℕ → ℕ → Bool) (old : List ℕ) (count limit x at : ℕ) (new : List ℕ) : Type 0 where
+  pub behind : at ≤ count
+  pub kept : (j : ℕ) → j < at → getD new j 0 ≡ getD old j 0
+  pub moved : (j : ℕ) → at ≤ j → j < count → j + 1 < limit → getD new (j + 1) 0 ≡ getD old j 0
+  pub later : (j : ℕ) → at ≤ j → j < count → before x (getD old j 0) ≡ true
+
+-- what of xs the block holds
+abbrev pub heldBy : List ℕ → Bounds → List ℕ → List ℕ
+heldBy priorities b xs = kept-by (inBlock priorities b) xs
+
+-- the node of the block over xs, before its sections are known
+abbrev pub rootAlone : List ℕ → Bounds → (parent : ℕ) → List ℕ → Node ℕ
+rootAlone priorities b parent xs =
+    record {
+      parent = parent;
+      entries = heldBy priorities b xs;
+      active = map (separates priorities b) (heldBy priorities b xs);
+      weight = length xs;
+      sections = [];
+    }
