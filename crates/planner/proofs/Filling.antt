@@ -3,7 +3,7 @@ use mathlib.Core.Path.{_≡_, refl, sym, ap, _∙_}
 use mathlib.Core.Bool.{Bool, true, false, cond}
 use mathlib.Core.List.{List, [], _∷_, _++_, map}
 use Prim.Native.Nat.{ℕ, zero, suc, _+_, _-_, _*_, _^_, _≤_, _<_}
-use native.Mathlib.Nat.{pow-succ}
+use native.Mathlib.Nat.{pow-suc, one-mul}
 use native.Mathlib.Omega.{arith}
 use lib.Bits.{bitOr}
 use lib.Count.{ones, ones-step}
@@ -25,13 +25,13 @@ bits-push [] false = refl
 bits-push (a ∷ bs) b = go b (bits-push bs b)
   where
     go : (b : Bool) → bits (bs ++ b ∷ []) ≡ bits bs + cond b (2 ^ length bs) 0 → cond a 1 0 + 2 * bits (bs ++ b ∷ []) ≡ cond a 1 0 + 2 * bits bs + cond b (2 ^ suc (length bs)) 0
-    go true h = rw pow-succ (omega arith)
+    go true h = rw pow-suc (omega arith)
     go false h = omega arith
 
 pub bits-below : (bs : List Bool) → bits bs < 2 ^ length bs
 bits-below [] = omega arith
-bits-below (true ∷ bs) = rw pow-succ (omega (arith, bits-below bs))
-bits-below (false ∷ bs) = rw pow-succ (omega (arith, bits-below bs))
+bits-below (true ∷ bs) = rw pow-suc (omega (arith, bits-below bs))
+bits-below (false ∷ bs) = rw pow-suc (omega (arith, bits-below bs))
 
 -- what the first i elements give of a block: entries, their number, and the mask
 pub record Filled (p q : ℕ → Bool) (front entries : List ℕ) (count mask : ℕ) : Type 0 where
@@ -61,7 +61,8 @@ module _ (p q : ℕ → Bool) (front : List ℕ) (x : ℕ) where
       below = rw (f .marked, f .counted, ← length-map (kept-by p front) q) (bits-below (map q (kept-by p front)))
 
       go : (t : Bool) → cond t (bitOr mask (2 ^ count)) mask ≡ bits (map q (kept-by p front)) + cond t (2 ^ length (kept-by p front)) 0
-      go true = ?
+      go true =
+          or-comm mask (2 ^ count) ∙ ap (λ n. bitOr n mask) (sym (one-mul (2 ^ count))) ∙ or-shifted 1 count mask below ∙ omega (arith, f .marked, ap (λ n. 2 ^ n) (f .counted))
       go false = omega (arith, f .marked)
 
 -- an entry that is still to come has a place
