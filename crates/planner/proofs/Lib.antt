@@ -1,4 +1,5 @@
 pub mod Apart
 pub mod Choosing
 pub mod Filling
+pub mod Gathering
 pub mod Order

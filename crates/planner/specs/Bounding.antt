@@ -6,7 +6,7 @@ use Rattle.planner.specs.declared.bounds.Bounds.{Bounds}
 use Rattle.planner.specs.Drawing.{rankBefore}
 
 -- the settings that can be planned for
-pub record Settings (alpha rho : ℕ) : Type 0 where
+pub record Allowed (alpha rho : ℕ) : Type 0 where
   pub some : 1 ≤ alpha
   pub few : alpha ≤ 16
   pub shares : 1 ≤ rho

@@ -2,3 +2,4 @@ pub mod Bounding
 pub mod Drawing
 pub mod Rows
 pub mod Steps
+pub mod Subtrees

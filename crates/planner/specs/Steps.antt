@@ -1,11 +1,12 @@
 -- What the steps of planning a block leave to the next. Assumes nothing.
 use mathlib.Core.Path.{_≡_}
 use mathlib.Core.Bool.{Bool, true}
-use mathlib.Core.List.{List, [], map}
+use mathlib.Core.List.{List, [], _∷_, map}
+use mathlib.Core.Logic.{_⊎_}
 use Prim.Native.Nat.{ℕ, _+_, _<_, _≤_}
-use lib.ListN.{length, getD}
+use lib.ListN.{length, getD, take, drop}
 use Rattle.std.specs.shelf.Lists.{Has, kept-by}
-use Rattle.tree.specs.Tree.{Node, drawnBefore}
+use Rattle.tree.specs.Tree.{Node, drawnBefore, cut}
 use Rattle.planner.specs.declared.bounds.Bounds.{Bounds}
 use Rattle.planner.specs.Bounding.{inBlock, separates}
 
@@ -35,3 +36,15 @@ rootAlone priorities b parent xs =
       weight = length xs;
       sections = [];
     }
+
+-- xs, the rest of a list, cut into sections
+abbrev pub cutBy : List ℕ → Bounds → List ℕ → List (List ℕ)
+cutBy priorities b xs = cut (separates priorities b) (inBlock priorities b) xs
+
+-- zs is xs with the first section moved to the front of it, where it takes up `count` places; the other sections, if any, are
+-- those of xs from `end` on, which stands as it stood
+pub record FirstSection (priorities : List ℕ) (b : Bounds) (xs zs : List ℕ) (count end : ℕ) : Type 0 where
+  pub sections : (cutBy priorities b xs ≡ take count zs ∷ []) ⊎ (cutBy priorities b xs ≡ take count zs ∷ cutBy priorities b (drop end xs))
+  pub rest : drop end zs ≡ drop end xs
+  pub behind : count ≤ end
+  pub within : end ≤ length xs

@@ -6,7 +6,7 @@ ghost use Rattle.std.specs.shelf.Lists.{All};
 ghost use Rattle.tree.specs.Laws.{Distinct};
 ghost use Rattle.tree.specs.Tree.{fanOut, amongEarliest, isActive};
 ghost use Rattle.planner.specs.Drawing.{rankBefore};
-ghost use Rattle.planner.specs.Bounding.{Settings, inBlock, separates};
+ghost use Rattle.planner.specs.Bounding.{Allowed, inBlock, separates};
 use crate::drawing::earlier;
 use crate::earliest::earliest;
 
@@ -21,7 +21,7 @@ pub(crate) struct Bounds {
 
 // The fan-out of a subtree of n entries.
 fn fan_out(alpha: usize, rho: usize, n: usize) -> usize
-    requires { ⌜ Settings alpha rho ⌝ }
+    requires { ⌜ Allowed alpha rho ⌝ }
     requires { ⌜ n ≤ 2000 ⌝ }
     ensures { λ r. ⌜ r ≡ fanOut alpha rho n ⌝ }
 {
@@ -32,7 +32,7 @@ fn fan_out(alpha: usize, rho: usize, n: usize) -> usize
 impl Bounds {
     // The bounds of the block over some ranks.
     pub(crate) fn of(priorities: &[u16], ranks: &[u16], alpha: usize, rho: usize) -> Bounds
-        requires settings { ⌜ Settings alpha rho ⌝ }
+        requires settings { ⌜ Allowed alpha rho ⌝ }
         requires some { ⌜ 0 < length (now ranks) ⌝ }
         requires few { ⌜ length (now ranks) ≤ 2000 ⌝ }
         requires apart { ⌜ Distinct (now ranks) ⌝ }

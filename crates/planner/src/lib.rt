@@ -3,4 +3,6 @@ mod bounds;
 mod drawing;
 mod earliest;
 mod entries;
+mod gather;
+mod plan;
 pub mod row;
