@@ -6,12 +6,13 @@ use Prim.Native.Nat.{ℕ, zero, suc, _+_, _-_, _*_, _^_, _≤_, _<_}
 use native.Mathlib.Nat.{pow-suc, one-mul}
 use native.Mathlib.Omega.{arith}
 use lib.Bits.{bitOr}
-use lib.Count.{ones, ones-step}
+use lib.Count.{ones, onesIn, ones-cat}
 use lib.ListN.{length, getD, set, take, drop, replicate}
-use Rattle.std.specs.shelf.Lists.{kept-by}
+use Rattle.std.specs.shelf.Lists.{All, kept-by}
 use Rattle.std.proofs.shelf.Bits.{pow-pos, or-shifted, or-comm}
 use Rattle.std.proofs.shelf.Elements.{kept-by-append}
 use Rattle.std.proofs.shelf.Lists.{append-nil, append-assoc, length-append, length-push, length-map, map-push, set-at, take-append-drop, drop-more}
+use Rattle.std.proofs.shelf.Tests.{both-ways}
 use Rattle.planner.specs.Rows.{filled, bits}
 
 filled-more : {X : Type 0} (n : ℕ) (blank : X) (ys : List X) (x : X) → length ys < n → set (filled n blank ys) (length ys) x ≡ filled n blank (ys ++ x ∷ [])
@@ -71,3 +72,30 @@ place-left p xs i within h =
     let parts : kept-by p xs ≡ kept-by p (take i xs) ++ kept-by p (drop i xs) = ap (kept-by p) (sym (take-append-drop i xs)) ∙ kept-by-append p (take i xs) (drop i xs) in
     let here : kept-by p (drop i xs) ≡ getD xs i 0 ∷ kept-by p (drop (i + 1) xs) = ap (kept-by p) (drop-more xs i 0 within) ∙ rw h refl in
     rw (parts, here) (omega (arith, length-append (kept-by p (take i xs)) (getD xs i 0 ∷ kept-by p (drop (i + 1) xs))))
+
+ones-zero : ones 0 ≡ 0
+unfolding ones onesIn
+ones-zero = refl
+
+ones-one : ones 1 ≡ 1
+unfolding ones onesIn
+ones-one = refl
+
+-- the mask has a one for each active separator, if those are in the block
+ones-bits : (bs : List Bool) → ones (bits bs) ≡ length (kept-by (λ b. b) bs)
+ones-bits [] = ones-zero
+ones-bits (true ∷ bs) = ap ones (omega arith) ∙ ones-cat 1 (bits bs) 1 (omega arith) ∙ omega (arith, ones-bits bs, ones-one)
+ones-bits (false ∷ bs) = ap ones (omega arith) ∙ ones-cat 1 (bits bs) 0 (omega arith) ∙ omega (arith, ones-bits bs, ones-zero)
+
+marks-kept : (p q : ℕ → Bool) (xs : List ℕ) → All (λ x. q x ≡ true → p x ≡ true) xs → length (kept-by (λ b. b) (map q (kept-by p xs))) ≡ length (kept-by q xs)
+marks-kept p q [] among = refl
+marks-kept p q (x ∷ xs) among = go (p x) (q x) refl (among .0) (marks-kept p q xs (among .1))
+  where
+    go : (s t : Bool) → q x ≡ t → (t ≡ true → s ≡ true) → length (kept-by (λ b. b) (map q (kept-by p xs))) ≡ length (kept-by q xs) → length (kept-by (λ b. b) (map q (cond s (x ∷ kept-by p xs) (kept-by p xs)))) ≡ length (cond t (x ∷ kept-by q xs) (kept-by q xs))
+    go true true e h rest = rw e (ap suc rest)
+    go true false e h rest = rw e rest
+    go false true e h rest = absurd (both-ways false refl (h refl))
+    go false false e h rest = rest
+
+pub ones-marks : (p q : ℕ → Bool) (xs : List ℕ) → All (λ x. q x ≡ true → p x ≡ true) xs → ones (bits (map q (kept-by p xs))) ≡ length (kept-by q xs)
+ones-marks p q xs among = ones-bits (map q (kept-by p xs)) ∙ marks-kept p q xs among

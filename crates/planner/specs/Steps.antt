@@ -5,7 +5,7 @@ use mathlib.Core.List.{List, [], _∷_, map}
 use mathlib.Core.Logic.{_⊎_}
 use Prim.Native.Nat.{ℕ, _+_, _<_, _≤_}
 use lib.ListN.{length, getD, take, drop}
-use Rattle.std.specs.shelf.Lists.{Has, kept-by}
+use Rattle.std.specs.shelf.Lists.{Has, kept-by, joined}
 use Rattle.tree.specs.Tree.{Node, drawnBefore, cut}
 use Rattle.planner.specs.declared.bounds.Bounds.{Bounds}
 use Rattle.planner.specs.Bounding.{inBlock, separates}
@@ -40,6 +40,10 @@ rootAlone priorities b parent xs =
 -- xs, the rest of a list, cut into sections
 abbrev pub cutBy : List ℕ → Bounds → List ℕ → List (List ℕ)
 cutBy priorities b xs = cut (separates priorities b) (inBlock priorities b) xs
+
+-- how many of xs are left for the sections
+abbrev pub leftBy : List ℕ → Bounds → List ℕ → ℕ
+leftBy priorities b xs = length (joined (λ s. s) (cutBy priorities b xs))
 
 -- zs is xs with the first section moved to the front of it, where it takes up `count` places; the other sections, if any, are
 -- those of xs from `end` on, which stands as it stood

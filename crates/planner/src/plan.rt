@@ -7,10 +7,9 @@ ghost use lib.ListN.{length};
 ghost use lib.Seq.{sets};
 ghost use Rattle.tree.specs.Laws.{Distinct};
 ghost use Rattle.tree.specs.Tree.{forest, numbered};
-ghost use Rattle.tree.proofs.Cutting.{together};
 ghost use Rattle.planner.specs.Bounding.{Allowed};
 ghost use Rattle.planner.specs.Rows.{rowOf, sectionRow};
-ghost use Rattle.planner.specs.Steps.{cutBy};
+ghost use Rattle.planner.specs.Steps.{cutBy, leftBy};
 ghost use Rattle.planner.specs.Subtrees.{subtree, withSections};
 use crate::bounds::Bounds;
 use crate::entries::begin_row;
@@ -65,8 +64,8 @@ fn plan_sections(priorities: &[u16], settings: Settings, bounds: Bounds, ranks: 
     requires settings { ⌜ Allowed (settings .alpha) (settings .rho) ⌝ }
     requires apart { ⌜ Distinct (now ranks) ⌝ }
     requires first { ⌜ 1 ≤ place .next ⌝ }
-    requires few { ⌜ place .next + length (together (cutBy (now priorities) bounds (now ranks))) ≤ 2001 ⌝ }
-    requires room { ⌜ place .next + length (together (cutBy (now priorities) bounds (now ranks))) ≤ length (now table) + 1 ⌝ }
+    requires few { ⌜ place .next + leftBy (now priorities) bounds (now ranks) ≤ 2001 ⌝ }
+    requires room { ⌜ place .next + leftBy (now priorities) bounds (now ranks) ≤ length (now table) + 1 ⌝ }
     requires fan { ⌜ place .section + length (cutBy (now priorities) bounds (now ranks)) ≡ ones (now row .mask) + 1 ⌝ }
     ensures rows { λ _. ⌜ now (table .exit) ≡ sets (now (table .entry)) (place .next - 1) (map rowOf (forest (subtree (now (priorities .entry)) (settings .alpha) (settings .rho) (place .block)) (place .next) (cutBy (now (priorities .entry)) bounds (now (ranks .entry))))) ⌝ }
     ensures noted { λ _. ⌜ now (row .exit) ≡ withSections (now (row .entry)) (sets (now (row .entry) .sections) (place .section) (map sectionRow (numbered (subtree (now (priorities .entry)) (settings .alpha) (settings .rho) (place .block)) (place .next) (cutBy (now (priorities .entry)) bounds (now (ranks .entry)))))) ⌝ }

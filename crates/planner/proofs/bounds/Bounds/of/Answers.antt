@@ -6,15 +6,11 @@ use lib.Dec.{ltb}
 use lib.ListN.{length, getD}
 use Rattle.std.proofs.shelf.Tests.{ltb-true}
 use Rattle.tree.specs.Tree.{fanOut}
-use Rattle.tree.proofs.Sections.{fanOut-le}
 use Rattle.planner.proofs.Choosing.{block-told, active-told}
+use Rattle.planner.proofs.Fan.{fan-within}
 use Rattle.planner.proofs.Order.{strict}
 use Rattle.planner.proofs.bounds.Bounds.of.Needs as need
 use Rattle.planner.proofs.bounds.Bounds.of.Needs.{then-divides, else-divides}
-
--- active separators come only with more entries than the block can hold
-fan-within : (alpha rho n : ℕ) → 1 ≤ rho → fanOut alpha rho n - 1 ≤ min alpha n
-fan-within alpha rho n h = omega (arith, fanOut-le alpha rho n h)
 
 pub returns : need.returns
 returns c =
