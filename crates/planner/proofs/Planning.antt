@@ -10,11 +10,11 @@ use lib.ListN.{length, set}
 use lib.Seq.{sets}
 use Rattle.std.specs.shelf.Lists.{All}
 use Rattle.std.proofs.shelf.Elements.{all-kept-by}
-use Rattle.std.proofs.shelf.Lists.{length-map}
+use Rattle.std.proofs.shelf.Lists.{length-append, length-map}
 use Rattle.tree.specs.Tree.{Section, Node, fanOut, cut, intoFirst, forest, numbered, block, isActive, amongEarliest, sections, nodes}
 use Rattle.tree.specs.Laws.{Strict, Distinct}
 use Rattle.tree.proofs.Counting.{kept-by-same, all-join}
-use Rattle.tree.proofs.Cutting.{length-cut, cut-lengths}
+use Rattle.tree.proofs.Cutting.{together, length-cut, cut-lengths}
 use Rattle.tree.proofs.Forest.{forest-same, numbered-same, length-numbered}
 use Rattle.tree.proofs.Nodes.{rootNode, fuel-enough, nodes-few}
 use Rattle.tree.proofs.Sections.{Within, active-in-block, length-block, length-sections, each-section}
@@ -45,6 +45,12 @@ module _ (ps : List ℕ) (alpha rho : ℕ) (allowed : Allowed alpha rho) where
   -- there are no more blocks than ranks
   pub subtree-few : (parent k : ℕ) (xs : List ℕ) → Distinct xs → length (subtree ps alpha rho parent k xs) ≤ length xs
   subtree-few parent k xs apart = nodes-few (strict ps) alpha rho (allowed .some) (length xs) parent k xs (all-unit xs) apart (le-refl (length xs))
+
+  pub forest-few : (parent k : ℕ) (parts : List (List ℕ)) → All Distinct parts → length (forest (subtree ps alpha rho parent) k parts) ≤ length (together parts)
+  forest-few parent k [] apart = omega arith
+  forest-few parent k (s ∷ parts) apart =
+      let first = subtree ps alpha rho parent k s in
+      omega (arith, subtree-few parent k s (apart .0), forest-few parent (k + length first) parts (apart .1), length-append first (forest (subtree ps alpha rho parent) (k + length first) parts), length-append s (together parts))
 
   -- a subtree is its root, and the subtrees of its sections
   pub subtree-is : (parent k : ℕ) (xs : List ℕ) → 0 < length xs → Distinct xs → subtree ps alpha rho parent k xs ≡ rootNode (rankBefore ps) alpha rho (subtree ps alpha rho k) parent k xs ∷ forest (subtree ps alpha rho k) (k + 1) (sections (rankBefore ps) alpha rho xs)

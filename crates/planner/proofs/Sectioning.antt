@@ -24,7 +24,7 @@ use Rattle.planner.specs.Steps.{cutBy, leftBy, FirstSection}
 use Rattle.planner.proofs.Placing.{sets-append}
 
 module _ (ps : List ℕ) (b : Bounds) (xs : List ℕ) where
-  some-part : 0 < length (cutBy ps b xs)
+  pub some-part : 0 < length (cutBy ps b xs)
   some-part = omega (arith, length-cut (separates ps b) (inBlock ps b) xs)
 
   -- what is known of the first section

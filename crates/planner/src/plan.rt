@@ -67,10 +67,12 @@ fn plan_sections(priorities: &[u16], settings: Settings, bounds: Bounds, ranks: 
     requires few { ⌜ place .next + leftBy (now priorities) bounds (now ranks) ≤ 2001 ⌝ }
     requires room { ⌜ place .next + leftBy (now priorities) bounds (now ranks) ≤ length (now table) + 1 ⌝ }
     requires fan { ⌜ place .section + length (cutBy (now priorities) bounds (now ranks)) ≡ ones (now row .mask) + 1 ⌝ }
+    requires places { ⌜ ones (now row .mask) ≤ 16 ⌝ }
     ensures rows { λ _. ⌜ now (table .exit) ≡ sets (now (table .entry)) (place .next - 1) (map rowOf (forest (subtree (now (priorities .entry)) (settings .alpha) (settings .rho) (place .block)) (place .next) (cutBy (now (priorities .entry)) bounds (now (ranks .entry))))) ⌝ }
     ensures noted { λ _. ⌜ now (row .exit) ≡ withSections (now (row .entry)) (sets (now (row .entry) .sections) (place .section) (map sectionRow (numbered (subtree (now (priorities .entry)) (settings .alpha) (settings .rho) (place .block)) (place .next) (cutBy (now (priorities .entry)) bounds (now (ranks .entry)))))) ⌝ }
     ensures count { λ r. ⌜ r ≡ length (forest (subtree (now (priorities .entry)) (settings .alpha) (settings .rho) (place .block)) (place .next) (cutBy (now (priorities .entry)) bounds (now (ranks .entry)))) ⌝ }
 {
+    let separators = row.mask.count_ones() as usize;
     let gathered = gather_section(priorities, bounds, ranks);
     let length = gathered.length;
     let end = gathered.end;
@@ -80,7 +82,7 @@ fn plan_sections(priorities: &[u16], settings: Settings, bounds: Bounds, ranks: 
         block,
         weight: length as u16,
     };
-    if place.section == row.mask.count_ones() as usize {
+    if place.section == separators {
         return count;
     }
     let further = Place {
