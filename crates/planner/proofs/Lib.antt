@@ -7,3 +7,4 @@ pub mod Order
 pub mod Placing
 pub mod Planning
 pub mod Sectioning
+pub mod Whole

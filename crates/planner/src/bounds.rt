@@ -44,7 +44,11 @@ impl Bounds {
         let divides = separators > 0;
         let separator = if divides { chosen[separators - 1] } else { 0 };
         let last = chosen[alpha.min(ranks.len()) - 1];
-        Bounds { last, divides, separator }
+        Bounds {
+            last,
+            divides,
+            separator,
+        }
     }
 
     // Whether the block holds a rank of its subtree.

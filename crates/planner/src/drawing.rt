@@ -8,7 +8,11 @@ fn priority(priorities: &[u16], rank: u16) -> u16
     ensures { λ r. ⌜ r ≡ getD (now (priorities .entry)) rank 0 ⌝ }
 {
     let at = rank as usize;
-    if at < priorities.len() { priorities[at] } else { 0 }
+    if at < priorities.len() {
+        priorities[at]
+    } else {
+        0
+    }
 }
 
 // Whether one rank is drawn before another.

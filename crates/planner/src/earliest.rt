@@ -10,7 +10,13 @@ use crate::drawing::earlier;
 
 // The first of `limit` places in `chosen`, of which `count` are taken, whose rank is not drawn before `rank`, with each rank from
 // there on moved up by a place. The last is dropped if there is no place for it.
-fn make_place(priorities: &[u16], chosen: &mut [u16; 16], count: usize, limit: usize, rank: u16) -> usize
+fn make_place(
+    priorities: &[u16],
+    chosen: &mut [u16; 16],
+    count: usize,
+    limit: usize,
+    rank: u16,
+) -> usize
     requires { ⌜ count ≤ limit ⌝ }
     requires { ⌜ limit ≤ 16 ⌝ }
     ensures made { λ r. ⌜ PlaceMade (rankBefore (now (priorities .entry))) (now (chosen .entry)) count limit rank r (now (chosen .exit)) ⌝ }

@@ -32,6 +32,9 @@ pub(crate) fn begin_row(priorities: &[u16], bounds: Bounds, ranks: &[u16], paren
         entries,
         mask,
         weight: ranks.len() as u16,
-        sections: [SectionRow { block: 0, weight: 0 }; 17],
+        sections: [SectionRow {
+            block: 0,
+            weight: 0,
+        }; 17],
     }
 }

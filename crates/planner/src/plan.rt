@@ -34,7 +34,14 @@ struct Place {
 
 // Plans the subtree of some ranks in key order, whose root has the number `number` and stands below the block `parent`. The answer
 // is how many blocks it has.
-pub(crate) fn plan_block(priorities: &[u16], settings: Settings, ranks: &mut [u16], table: &mut [Row], parent: u16, number: u16) -> u16
+pub(crate) fn plan_block(
+    priorities: &[u16],
+    settings: Settings,
+    ranks: &mut [u16],
+    table: &mut [Row],
+    parent: u16,
+    number: u16,
+) -> u16
     requires settings { ⌜ Allowed (settings .alpha) (settings .rho) ⌝ }
     requires apart { ⌜ Distinct (now ranks) ⌝ }
     requires first { ⌜ 1 ≤ number ⌝ }
@@ -60,7 +67,15 @@ pub(crate) fn plan_block(priorities: &[u16], settings: Settings, ranks: &mut [u1
 
 // Plans the sections of a block from the one on at which planning stands, and notes them in the block's row. The answer is how
 // many blocks they have.
-fn plan_sections(priorities: &[u16], settings: Settings, bounds: Bounds, ranks: &mut [u16], table: &mut [Row], row: &mut Row, place: Place) -> u16
+fn plan_sections(
+    priorities: &[u16],
+    settings: Settings,
+    bounds: Bounds,
+    ranks: &mut [u16],
+    table: &mut [Row],
+    row: &mut Row,
+    place: Place,
+) -> u16
     requires settings { ⌜ Allowed (settings .alpha) (settings .rho) ⌝ }
     requires apart { ⌜ Distinct (now ranks) ⌝ }
     requires first { ⌜ 1 ≤ place .next ⌝ }
@@ -76,7 +91,14 @@ fn plan_sections(priorities: &[u16], settings: Settings, bounds: Bounds, ranks: 
     let gathered = gather_section(priorities, bounds, ranks);
     let length = gathered.length;
     let end = gathered.end;
-    let count = plan_block(priorities, settings, &mut ranks[0..length], table, place.block, place.next);
+    let count = plan_block(
+        priorities,
+        settings,
+        &mut ranks[0..length],
+        table,
+        place.block,
+        place.next,
+    );
     let block = if length == 0 { 0 } else { place.next };
     row.sections[place.section] = SectionRow {
         block,
@@ -90,5 +112,14 @@ fn plan_sections(priorities: &[u16], settings: Settings, bounds: Bounds, ranks: 
         section: place.section + 1,
         next: place.next + count,
     };
-    count + plan_sections(priorities, settings, bounds, &mut ranks[end..], table, row, further)
+    count
+        + plan_sections(
+            priorities,
+            settings,
+            bounds,
+            &mut ranks[end..],
+            table,
+            row,
+            further,
+        )
 }

@@ -29,15 +29,14 @@ more c chosen own others =
 
 pub loop-rank-again : need.loop-rank-again
 loop-rank-again c =
-    let counted : c .if-count-limit .count ≡ min (c .args .limit) (c .loop-rank .rank-index + 1) = omega arith in
-    (
+    let counted : c .if-count-limit .count ≡ min (c .args .limit) (c .loop-rank .rank-index + 1) = omega arith in (
       rw counted (
-        elim (c .if-at-limit .came) [
-          then-at-limit w ↦
-            rw (w .chosen-is) (more c _ (λ fits. getD-set-same (c .make-place-at .last .chosen) _ _ 0 (omega arith)) (λ j apart. getD-set-other (c .make-place-at .last .chosen) _ j _ 0 apart))
-          | else-at-limit w ↦ rw (w .chosen-is) (more c _ (λ fits. absurd (omega arith)) (λ j apart. refl))
-        ]
-      ),
+          elim (c .if-at-limit .came) [
+            | then-at-limit w ↦
+                rw (w .chosen-is) (more c _ (λ fits. getD-set-same (c .make-place-at .last .chosen) _ _ 0 (omega arith)) (λ j apart. getD-set-other (c .make-place-at .last .chosen) _ j _ 0 apart))
+            | else-at-limit w ↦ rw (w .chosen-is) (more c _ (λ fits. absurd (omega arith)) (λ j apart. refl))
+          ]
+          ),
       counted,
     )
 

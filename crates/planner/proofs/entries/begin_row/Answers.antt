@@ -40,17 +40,17 @@ loop-rank-again c =
     let q = separates (c .args .priorities .now) (c .args .bounds) in
     let within : i < length xs = c .loop-rank-test .taken in
     rw (take-more xs i 0 within) (
-      elim (c .if-holds .came) [
-        then-holds w ↦
+    elim (c .if-holds .came) [
+      | then-holds w ↦
           let less : c .loop-rank .count < 16 = room p xs i _ within (w .if-holds .ensures tt) (c .loop-rank .inv .counted) (c .pre .fits) in
           let marked : w .if-separates .mask ≡ cond (q (getD xs i 0)) (bitOr (c .loop-rank .mask) (2 ^ c .loop-rank .count)) (c .loop-rank .mask) =
           elim (w .if-separates .came) [
-            then-separates v ↦ rw (← v .if-separates .ensures tt) (v .mask-is ∙ ap (bitOr (c .loop-rank .mask)) (one-shl (c .loop-rank .count) 16 less))
+            | then-separates v ↦ rw (← v .if-separates .ensures tt) (v .mask-is ∙ ap (bitOr (c .loop-rank .mask)) (one-shl (c .loop-rank .count) 16 less))
             | else-separates v ↦ rw (← v .if-separates .ensures tt) (v .mask-is)
           ] in
           rw (w .entries-is, w .count-is, w .mask-is) (filled-take p q (take i xs) (getD xs i 0) _ _ _ _ (sym (w .if-holds .ensures tt)) less marked (c .loop-rank .inv))
-        | else-holds w ↦ rw (w .entries-is, w .count-is, w .mask-is) (filled-skip p q (take i xs) (getD xs i 0) _ _ _ (sym (w .if-holds .ensures tt)) (c .loop-rank .inv))
-      ]
+      | else-holds w ↦ rw (w .entries-is, w .count-is, w .mask-is) (filled-skip p q (take i xs) (getD xs i 0) _ _ _ (sym (w .if-holds .ensures tt)) (c .loop-rank .inv))
+    ]
     )
 
 pub cast-result : need.cast-result

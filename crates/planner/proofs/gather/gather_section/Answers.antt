@@ -27,10 +27,10 @@ loop-i-again c =
     let inside : c .loop-i .i < length (c .loop-i .ranks) = omega arith in
     let x = getD (c .loop-i .ranks) (c .loop-i .i) 0 in
     elim (c .if-not-holds .came) [
-      then-not-holds w ↦
-        rw (w .ranks-is, w .length-is) (gathering-more _ _ _ _ _ _ x 0 (c .loop-i .inv) inside refl (sym (c .if-separates .ensures tt)) (sym (w .if-not-holds .ensures tt)))
+      | then-not-holds w ↦
+          rw (w .ranks-is, w .length-is) (gathering-more _ _ _ _ _ _ x 0 (c .loop-i .inv) inside refl (sym (c .if-separates .ensures tt)) (sym (w .if-not-holds .ensures tt)))
       | else-not-holds w ↦
-        rw (w .ranks-is, w .length-is) (gathering-skip _ _ _ _ _ _ x 0 (c .loop-i .inv) inside refl (sym (c .if-separates .ensures tt)) (sym (w .if-not-holds .ensures tt)))
+          rw (w .ranks-is, w .length-is) (gathering-skip _ _ _ _ _ _ x 0 (c .loop-i .inv) inside refl (sym (c .if-separates .ensures tt)) (sym (w .if-not-holds .ensures tt)))
     ]
 
 pub returns : need.returns

@@ -78,8 +78,8 @@ plan-block-returns t c =
     let beneath = c .plan-sections-beneath .ensures .count in
     record {
       rows =
-      ap (λ table. set table (k - 1) (last .row)) (c .plan-sections-beneath .ensures .rows)
-      ∙ root-placed ps alpha rho (c .pre .settings) b xs some (c .pre .apart) (c .of-bounds .ensures .block) (c .of-bounds .ensures .active) parent k (c .args .table .now) (last .row) (c .pre .first) noted;
+          ap (λ table. set table (k - 1) (last .row)) (c .plan-sections-beneath .ensures .rows)
+          ∙ root-placed ps alpha rho (c .pre .settings) b xs some (c .pre .apart) (c .of-bounds .ensures .block) (c .of-bounds .ensures .active) parent k (c .args .table .now) (last .row) (c .pre .first) noted;
       count = omega arith;
     }
 
@@ -204,7 +204,7 @@ plan-sections-returns t c =
     record {
       rows = rows-on below (λ j. refl) k s (cutBy ps b rest) blocks (c .plan-block-count .ensures .count) (cutBy ps b xs) split (c .args .table .now) (c .plan-block-count .last .table) (c .plan-sections .last .table) (c .pre .first) (c .plan-block-count .ensures .rows) (c .plan-sections .ensures .rows);
       noted =
-      c .plan-sections .ensures .noted
-      ∙ ap (withSections (c .args .row .now)) (noted-on below (λ j. refl) k s (cutBy ps b rest) blocks (c .plan-block-count .ensures .count) (cutBy ps b xs) split (c .args .row .now .sections) (c .args .place .section) (c .if-length-eq0 .block) (gathered .result .length) (sym long) empty other);
+          c .plan-sections .ensures .noted
+          ∙ ap (withSections (c .args .row .now)) (noted-on below (λ j. refl) k s (cutBy ps b rest) blocks (c .plan-block-count .ensures .count) (cutBy ps b xs) split (c .args .row .now .sections) (c .args .place .section) (c .if-length-eq0 .block) (gathered .result .length) (sym long) empty other);
       count = omega (arith, count-on below (λ j. refl) k s (cutBy ps b rest) blocks (c .plan-block-count .ensures .count) (cutBy ps b xs) split, c .plan-sections .ensures .count);
     }

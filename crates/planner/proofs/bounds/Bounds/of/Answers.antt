@@ -22,7 +22,7 @@ returns c =
     let fan : c .fan-out-separators .result - 1 ≡ separators = ap (λ n. n - 1) (c .fan-out-separators .ensures) in
     let last : ltb 0 (c .fan-out-separators .result - 1) ≡ true → c .if-divides .separator ≡ getD chosen (separators - 1) 0 =
     λ divides. elim (c .if-divides .came) [
-      then-divides w ↦ w .separator-is ∙ ap (λ n. getD chosen (n - 1) 0) fan
+      | then-divides w ↦ w .separator-is ∙ ap (λ n. getD chosen (n - 1) 0) fan
       | else-divides w ↦ absurd (omega (arith, ltb-true 0 (c .fan-out-separators .result - 1) divides, w .if-divides .left))
     ] in
     record {
