@@ -30,7 +30,10 @@ impl Row {
         entries: [0; 16],
         mask: 0,
         weight: 0,
-        sections: [SectionRow { block: 0, weight: 0 }; 17],
+        sections: [SectionRow {
+            block: 0,
+            weight: 0,
+        }; 17],
     };
 
     // How many sections the block has: one more than there are active separators.

@@ -4,6 +4,7 @@ mod lists;
 mod second;
 mod shown;
 mod trials;
+
 use lists::generated;
 use planner::plan_tree;
 use planner::row::Row;
@@ -13,7 +14,12 @@ use std::io::Read;
 use trials::Trials;
 
 // α, ρ and priorities of a line, printed with the blocks of their plan.
-fn show_plan(rt: &LibcRuntime, line: &str, work: &mut [u16], table: &mut [Row]) -> Result<(), AnyError> {
+fn show_plan(
+    rt: &LibcRuntime,
+    line: &str,
+    work: &mut [u16],
+    table: &mut [Row],
+) -> Result<(), AnyError> {
     let mut numbers: Vec<u16> = Vec::new(rt.alloc());
     for word in line.split_whitespace() {
         if let Ok(number) = word.parse::<u16>() {
@@ -28,9 +34,18 @@ fn show_plan(rt: &LibcRuntime, line: &str, work: &mut [u16], table: &mut [Row]) 
     Ok(())
 }
 
-// How often planning a generated list visits a rank: each block goes over the ranks of its subtree three times.
-fn show_visits(rt: &LibcRuntime, n: usize, alpha: usize, rho: usize, work: &mut [u16], table: &mut [Row]) -> Result<(), AnyError> {
-    let priorities = generated(rt.alloc(), 1, n, 65_536)?;
+// How often planning a generated list visits a rank. Each block goes over the ranks of its subtree three times, so that the visits
+// follow from the weights in the table.
+fn show_visits(
+    rt: &LibcRuntime,
+    n: usize,
+    limit: u32,
+    alpha: usize,
+    rho: usize,
+    work: &mut [u16],
+    table: &mut [Row],
+) -> Result<(), AnyError> {
+    let priorities = generated(rt.alloc(), 1, n, limit)?;
     let blocks = plan_tree(priorities.as_slice(), alpha, rho, work, table).unwrap_or(0);
     let mut weights = 0u64;
     for (b, row) in table.iter().enumerate() {
@@ -39,7 +54,10 @@ fn show_visits(rt: &LibcRuntime, n: usize, alpha: usize, rho: usize, work: &mut 
         }
     }
     let visits = weights.wrapping_mul(3);
-    println!(rt, "alpha {alpha} rho {rho}: {n} entries in {blocks} blocks, {visits} visits")?;
+    println!(
+        rt,
+        "alpha {alpha} rho {rho}: {n} entries with priorities below {limit} in {blocks} blocks, {visits} visits"
+    )?;
     Ok(())
 }
 
@@ -54,12 +72,31 @@ fn run(rt: &LibcRuntime) -> Result<(), AnyError> {
     let mut trials = Trials::new();
     trials.all_short_lists(rt.alloc(), work.as_mut_slice(), table.as_mut_slice())?;
     trials.generated_lists(rt.alloc(), work.as_mut_slice(), table.as_mut_slice())?;
-    println!(rt, "{} lists planned, {} unlike the second planner", trials.tried, trials.unlike)?;
+    println!(
+        rt,
+        "{} lists planned, {} unlike the second planner",
+        trials.tried, trials.unlike
+    )?;
     for n in [500, 1000, 2000] {
-        show_visits(rt, n, 10, 2, work.as_mut_slice(), table.as_mut_slice())?;
-    }
-    for n in [500, 1000, 2000] {
-        show_visits(rt, n, 1, 1, work.as_mut_slice(), table.as_mut_slice())?;
+        show_visits(
+            rt,
+            n,
+            65_536,
+            10,
+            2,
+            work.as_mut_slice(),
+            table.as_mut_slice(),
+        )?;
+        show_visits(
+            rt,
+            n,
+            65_536,
+            1,
+            1,
+            work.as_mut_slice(),
+            table.as_mut_slice(),
+        )?;
+        show_visits(rt, n, 1, 1, 1, work.as_mut_slice(), table.as_mut_slice())?;
     }
     Ok(())
 }

@@ -58,7 +58,13 @@ fn below(drawn: &[usize], separators: usize, rank: usize) -> usize {
 }
 
 // The ranks of a section, in the order in which they are drawn.
-fn section(heap: Global, drawn: &[usize], alpha: usize, separators: usize, number: usize) -> Result<Vec<usize>, AllocError> {
+fn section(
+    heap: Global,
+    drawn: &[usize],
+    alpha: usize,
+    separators: usize,
+    number: usize,
+) -> Result<Vec<usize>, AllocError> {
     let mut members = Vec::new(heap);
     for (i, rank) in drawn.iter().enumerate() {
         if i >= alpha && below(drawn, separators, *rank) == number {
@@ -69,7 +75,12 @@ fn section(heap: Global, drawn: &[usize], alpha: usize, separators: usize, numbe
 }
 
 // A block's ranks in key order, each with 1 if it is active.
-fn block(heap: Global, drawn: &[usize], alpha: usize, separators: usize) -> Result<Vec<(usize, usize)>, AllocError> {
+fn block(
+    heap: Global,
+    drawn: &[usize],
+    alpha: usize,
+    separators: usize,
+) -> Result<Vec<(usize, usize)>, AllocError> {
     let mut entries = Vec::new(heap);
     for (i, rank) in drawn.iter().enumerate() {
         if i < alpha {
@@ -82,7 +93,15 @@ fn block(heap: Global, drawn: &[usize], alpha: usize, separators: usize) -> Resu
 }
 
 // The subtree of some ranks, as they are drawn, below a parent and with a number. Its depth is at most their number.
-pub fn plan(heap: Global, depth: usize, drawn: &[usize], alpha: usize, rho: usize, parent: usize, number: usize) -> Result<Subtree, AllocError> {
+pub fn plan(
+    heap: Global,
+    depth: usize,
+    drawn: &[usize],
+    alpha: usize,
+    rho: usize,
+    parent: usize,
+    number: usize,
+) -> Result<Subtree, AllocError> {
     let mut words = Vec::new(heap);
     if depth == 0 || drawn.len() == 0 {
         return Ok(Subtree { blocks: 0, words });
@@ -102,7 +121,15 @@ pub fn plan(heap: Global, depth: usize, drawn: &[usize], alpha: usize, rho: usiz
     for i in 0..sections {
         let members = section(heap, drawn, alpha, separators, i)?;
         let next = number.wrapping_add(blocks);
-        let planned = plan(heap, depth - 1, members.as_slice(), alpha, rho, number, next)?;
+        let planned = plan(
+            heap,
+            depth - 1,
+            members.as_slice(),
+            alpha,
+            rho,
+            number,
+            next,
+        )?;
         words.push(if members.len() == 0 { 0 } else { next })?;
         words.push(members.len())?;
         beneath.extend_from_slice(planned.words.as_slice())?;

@@ -51,7 +51,15 @@ impl Trials {
     }
 
     // Plans a list by both.
-    fn try_list(&mut self, heap: Global, list: &[u16], alpha: usize, rho: usize, work: &mut [u16], table: &mut [Row]) -> Result<(), AllocError> {
+    fn try_list(
+        &mut self,
+        heap: Global,
+        list: &[u16],
+        alpha: usize,
+        rho: usize,
+        work: &mut [u16],
+        table: &mut [Row],
+    ) -> Result<(), AllocError> {
         let answer = plan_tree(list, alpha, rho, work, table);
         let drawn = draw(heap, list)?;
         let other = plan(heap, drawn.len(), drawn.as_slice(), alpha, rho, 0, 1)?;
@@ -70,7 +78,12 @@ impl Trials {
     }
 
     // All lists of n priorities below n, for n up to 6: all permutations, and all ties.
-    pub fn all_short_lists(&mut self, heap: Global, work: &mut [u16], table: &mut [Row]) -> Result<(), AllocError> {
+    pub fn all_short_lists(
+        &mut self,
+        heap: Global,
+        work: &mut [u16],
+        table: &mut [Row],
+    ) -> Result<(), AllocError> {
         let counts = [1u32, 1, 4, 27, 256, 3_125, 46_656];
         for (n, count) in counts.iter().enumerate() {
             for code in 0..*count {
@@ -84,7 +97,12 @@ impl Trials {
     }
 
     // Generated lists, with few ties and with many, under many settings.
-    pub fn generated_lists(&mut self, heap: Global, work: &mut [u16], table: &mut [Row]) -> Result<(), AllocError> {
+    pub fn generated_lists(
+        &mut self,
+        heap: Global,
+        work: &mut [u16],
+        table: &mut [Row],
+    ) -> Result<(), AllocError> {
         for seed in 0..40u32 {
             for limit in [3, 50, 65_536] {
                 for alpha in [1, 2, 3, 5, 10, 16] {
