@@ -32,6 +32,15 @@ use Rattle.planner.proofs.Filling.{ones-marks}
 use Rattle.planner.proofs.Order.{strict}
 use Rattle.planner.proofs.Placing.{set-sets, sets-filled}
 
+-- what the bounds of a block over xs make of it: how many it holds, how many it leaves for how many sections, that the mask counts
+-- them, and that planning them has less left than planning the block
+pub record Divided (ps : List ℕ) (alpha rho : ℕ) (b : Bounds) (xs : List ℕ) : Type 0 where
+  pub held : length (heldBy ps b xs) ≡ min alpha (length xs)
+  pub left : length (heldBy ps b xs) + leftBy ps b xs ≡ length xs
+  pub parts : length (cutBy ps b xs) ≡ fanOut alpha rho (length xs)
+  pub fan : length (cutBy ps b xs) ≡ ones (bits (map (separates ps b) (heldBy ps b xs))) + 1
+  pub falls : 3 * leftBy ps b xs + length (cutBy ps b xs) < 3 * length xs
+
 -- tests that agree on the elements cut alike, and give the same flags
 cut-same : (p p′ q q′ : ℕ → Bool) (xs : List ℕ) → All (λ x. p x ≡ q x) xs → All (λ x. p′ x ≡ q′ x) xs → cut p p′ xs ≡ cut q q′ xs
 cut-same p p′ q q′ [] same same′ = refl
@@ -73,22 +82,27 @@ module _ (ps : List ℕ) (alpha rho : ℕ) (allowed : Allowed alpha rho) where
     marks-are : map (separates ps b) (heldBy ps b xs) ≡ map (isActive (rankBefore ps) alpha rho xs) (block (rankBefore ps) alpha xs)
     marks-are = map-same _ _ (heldBy ps b xs) (all-kept-by (inBlock ps b) _ xs dividing) ∙ ap (map (isActive (rankBefore ps) alpha rho xs)) held-is
 
-    pub held-count : length (heldBy ps b xs) ≡ min alpha (length xs)
-    held-count = ap length held-is ∙ length-block (strict ps) alpha rho xs (all-unit xs) apart
-
-    pub left-count : length (heldBy ps b xs) + leftBy ps b xs ≡ length xs
-    left-count = rw (held-is, parts-are) (cut-lengths _ _ (active-in-block (rankBefore ps) alpha rho xs) xs)
-
-    pub parts-count : length (cutBy ps b xs) ≡ fanOut alpha rho (length xs)
+    parts-count : length (cutBy ps b xs) ≡ fanOut alpha rho (length xs)
     parts-count = ap length parts-are ∙ length-sections (strict ps) alpha rho (allowed .shares) xs (all-unit xs) apart
 
-    -- planning its sections has less left than planning the block
-    pub sections-fall : 3 * leftBy ps b xs + length (cutBy ps b xs) < 3 * length xs
-    sections-fall = omega (arith, held-count, left-count, parts-count, fan-within alpha rho (length xs) (allowed .shares), allowed .some)
+    pub divided : Divided ps alpha rho b xs
+    divided =
+        record {
+          held = held;
+          left = left;
+          parts = parts-count;
+          fan = omega (arith, length-cut (separates ps b) (inBlock ps b) xs, ones-marks (inBlock ps b) (separates ps b) xs among);
+          falls = omega (arith, held, left, parts-count, fan-within alpha rho (length xs) (allowed .shares), allowed .some);
+        }
+      where
+        held : length (heldBy ps b xs) ≡ min alpha (length xs)
+        held = ap length held-is ∙ length-block (strict ps) alpha rho xs (all-unit xs) apart
 
-    -- the fan-out is counted from the mask
-    pub fan-from-mask : length (cutBy ps b xs) ≡ ones (bits (map (separates ps b) (heldBy ps b xs))) + 1
-    fan-from-mask = omega (arith, length-cut (separates ps b) (inBlock ps b) xs, ones-marks (inBlock ps b) (separates ps b) xs (all-join (λ x d i active. i ∙ active-in-block (rankBefore ps) alpha rho xs x (sym d ∙ active)) xs dividing inside))
+        left : length (heldBy ps b xs) + leftBy ps b xs ≡ length xs
+        left = rw (held-is, parts-are) (cut-lengths _ _ (active-in-block (rankBefore ps) alpha rho xs) xs)
+
+        among : All (λ x. separates ps b x ≡ true → inBlock ps b x ≡ true) xs
+        among = all-join (λ x d i active. i ∙ active-in-block (rankBefore ps) alpha rho xs x (sym d ∙ active)) xs dividing inside
 
     module _ (parent k : ℕ) where
       -- the row with its sections noted is the root's

@@ -35,6 +35,10 @@ module _ (ps : List ℕ) (b : Bounds) (xs : List ℕ) where
     pub apart-first : Distinct xs → Distinct s
     apart-first apart = subst (All Distinct) are (distinct-cut (separates ps b) (inBlock ps b) xs apart) .0
 
+-- what the work area holds from `end` on, once ys stands for the first `count` of zs
+abbrev pub restOf : (zs ys : List ℕ) (count end : ℕ) → List ℕ
+restOf zs ys count end = let all = ys ++ postOf 0 (count - 0) zs in take (length all - end) (drop end all)
+
 -- xs with its first section, of `count` ranks, gathered in zs
 module _ (ps : List ℕ) (b : Bounds) (xs zs : List ℕ) (count end : ℕ) (first : FirstSection ps b xs zs count end) where
   pub first-part : (parts : List (List ℕ)) × (cutBy ps b xs ≡ take (count - 0) zs ∷ parts)
@@ -52,23 +56,24 @@ module _ (ps : List ℕ) (b : Bounds) (xs zs : List ℕ) (count end : ℕ) (firs
       go (inl last) = rw (sub-zero count) last
       go (inr more) = absurd (omega (arith, ap length more, some-part ps b (drop end xs)))
 
-  pub more-parts : (rest : List ℕ) → rest ≡ drop end xs → (length (cutBy ps b xs) ≡ 1 → ⊥) → cutBy ps b xs ≡ take (count - 0) zs ∷ cutBy ps b rest
-  more-parts rest is several = go (first .sections)
-    where
-      go : (cutBy ps b xs ≡ take count zs ∷ []) ⊎ (cutBy ps b xs ≡ take count zs ∷ cutBy ps b (drop end xs)) → cutBy ps b xs ≡ take (count - 0) zs ∷ cutBy ps b rest
-      go (inl last) = absurd (several (ap length last))
-      go (inr more) = rw (sub-zero count, is) more
-
   module _ (long : length zs ≡ length xs) where
     pub length-first : length (take (count - 0) zs) ≡ count
     length-first = rw (sub-zero count) (length-take-le count zs (omega (arith, first .behind, first .within)))
 
-    -- what lies past the section is as it was, whatever became of the section
-    pub rest-kept : (ys : List ℕ) → length ys ≡ length (take (count - 0) zs) → let all = ys ++ postOf 0 (count - 0) zs in take (length all - end) (drop end all) ≡ drop end xs
-    rest-kept ys same =
-        take-rest (ys ++ postOf 0 (count - 0) zs) end
-        ∙ drop-append-drop (count - 0) zs ys end (omega (arith, first .behind)) (omega (arith, same, length-first))
-        ∙ first .rest
+    module _ (ys : List ℕ) (same : length ys ≡ length (take (count - 0) zs)) where
+      -- what lies past the section is as it was, whatever became of the section
+      pub rest-kept : restOf zs ys count end ≡ drop end xs
+      rest-kept =
+          take-rest (ys ++ postOf 0 (count - 0) zs) end
+          ∙ drop-append-drop (count - 0) zs ys end (omega (arith, first .behind)) (omega (arith, same, length-first))
+          ∙ first .rest
+
+      pub more-parts : (length (cutBy ps b xs) ≡ 1 → ⊥) → cutBy ps b xs ≡ take (count - 0) zs ∷ cutBy ps b (restOf zs ys count end)
+      more-parts several = go (first .sections)
+        where
+          go : (cutBy ps b xs ≡ take count zs ∷ []) ⊎ (cutBy ps b xs ≡ take count zs ∷ cutBy ps b (drop end xs)) → cutBy ps b xs ≡ take (count - 0) zs ∷ cutBy ps b (restOf zs ys count end)
+          go (inl last) = absurd (several (ap length last))
+          go (inr more) = rw (sub-zero count) more ∙ ap (λ l. take (count - 0) zs ∷ cutBy ps b l) (sym rest-kept)
 
 module _ (below : ℕ → List ℕ → List (Node ℕ)) (none : (k : ℕ) → below k [] ≡ []) where
   -- the rows of sections, the first of them apart

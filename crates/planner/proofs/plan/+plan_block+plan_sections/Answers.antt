@@ -1,9 +1,8 @@
 -- Planning a block, and planning its sections, lay down the rows of the definition's nodes.
 use mathlib.Core.Path.{_≡_, refl, sym, ap, subst, _∙_}
-use mathlib.Core.List.{List, [], _∷_, _++_, map}
+use mathlib.Core.List.{List, [], _∷_, map}
 use Prim.Native.Nat.{ℕ, _+_, _-_, _*_, _≤_, _<_}
 use native.Mathlib.Omega.{arith}
-use borrow.Rule.Slice.PartMut.{postOf}
 use lib.Count.{ones}
 use lib.ListN.{length, set, take, drop}
 use lib.Seq.{sets}
@@ -18,8 +17,8 @@ use Rattle.planner.specs.Rows.{rowOf, sectionRow}
 use Rattle.planner.specs.Steps.{cutBy, leftBy}
 use Rattle.planner.specs.Subtrees.{subtree, withSections}
 use Rattle.planner.proofs.Apart.{distinct-drop}
-use Rattle.planner.proofs.Planning.{forest-few, held-count, left-count, parts-count, sections-fall, fan-from-mask, root-row, subtree-parts, root-placed, subtree-few}
-use Rattle.planner.proofs.Sectioning.{some-part, left-first, apart-first, first-part, last-part, more-parts, length-first, rest-kept, rows-on, noted-on, count-on}
+use Rattle.planner.proofs.Planning.{forest-few, divided, root-row, subtree-parts, root-placed, subtree-few}
+use Rattle.planner.proofs.Sectioning.{some-part, left-first, apart-first, first-part, last-part, more-parts, length-first, restOf, rest-kept, rows-on, noted-on, count-on}
 use Rattle.planner.proofs.plan.+plan_block+plan_sections.Needs as need
 use Rattle.planner.proofs.plan.+plan_block+plan_sections.Needs.{plan-sections-then-length-eq0, plan-sections-else-length-eq0}
 
@@ -27,7 +26,7 @@ pub plan-block-begin-row-row-requires : need.plan-block-begin-row-row-requires
 plan-block-begin-row-row-requires t c κs =
     let some : 0 < length (c .args .ranks .now) = omega arith in
     record {
-      fits = omega (arith, held-count (c .args .priorities .now) (c .args .settings .alpha) (c .args .settings .rho) (c .pre .settings) (c .of-bounds .result) (c .args .ranks .now) some (c .pre .apart) (c .of-bounds .ensures .block) (c .of-bounds .ensures .active));
+      fits = omega (arith, divided (c .args .priorities .now) (c .args .settings .alpha) (c .args .settings .rho) (c .pre .settings) (c .of-bounds .result) (c .args .ranks .now) some (c .pre .apart) (c .of-bounds .ensures .block) (c .of-bounds .ensures .active) .held);
       few = omega arith;
     }
 
@@ -39,11 +38,12 @@ plan-block-plan-sections-beneath-requires t c κs =
     let xs = c .args .ranks .now in
     let b = c .of-bounds .result in
     let some : 0 < length xs = omega arith in
-    let held = held-count ps alpha rho (c .pre .settings) b xs some (c .pre .apart) (c .of-bounds .ensures .block) (c .of-bounds .ensures .active) in
-    let left = left-count ps alpha rho (c .pre .settings) b xs some (c .pre .apart) (c .of-bounds .ensures .block) (c .of-bounds .ensures .active) in
-    let fan = fan-from-mask ps alpha rho (c .pre .settings) b xs some (c .pre .apart) (c .of-bounds .ensures .block) (c .of-bounds .ensures .active) in
-    let parts = parts-count ps alpha rho (c .pre .settings) b xs some (c .pre .apart) (c .of-bounds .ensures .block) (c .of-bounds .ensures .active) in
-    let less = sections-fall ps alpha rho (c .pre .settings) b xs some (c .pre .apart) (c .of-bounds .ensures .block) (c .of-bounds .ensures .active) in
+    let known = divided ps alpha rho (c .pre .settings) b xs some (c .pre .apart) (c .of-bounds .ensures .block) (c .of-bounds .ensures .active) in
+    let held = known .held in
+    let left = known .left in
+    let fan = known .fan in
+    let parts = known .parts in
+    let less = known .falls in
     let falls : 3 * leftBy ps b xs + length (cutBy ps b xs) < t = omega arith in
     (falls, (c .pre .settings, (c .pre .apart, (omega arith, (omega arith, (omega arith, (rw (c .begin-row-row .ensures) (omega arith), rw (c .begin-row-row .ensures) (omega arith))))))))
 
@@ -152,11 +152,10 @@ plan-sections-plan-sections-requires t c κs =
     let xs = c .args .ranks .now in
     let gathered = c .gather-section-gathered in
     let s = take (gathered .result .length - 0) (gathered .last .ranks) in
-    let all = c .plan-block-count .last .ranks ++ postOf 0 (gathered .result .length - 0) (gathered .last .ranks) in
-    let rest = take (length all - gathered .result .end) (drop (gathered .result .end) all) in
-    let kept : rest ≡ drop (gathered .result .end) xs = rest-kept ps b xs (gathered .last .ranks) (gathered .result .length) (gathered .result .end) (gathered .ensures) (gathered .kept .ranks) (c .plan-block-count .last .ranks) (c .plan-block-count .kept .ranks) in
-    let split = more-parts ps b xs (gathered .last .ranks) (gathered .result .length) (gathered .result .end) (gathered .ensures) rest kept (λ one. omega arith) in
+    let rest = restOf (gathered .last .ranks) (c .plan-block-count .last .ranks) (gathered .result .length) (gathered .result .end) in
+    let split = more-parts ps b xs (gathered .last .ranks) (gathered .result .length) (gathered .result .end) (gathered .ensures) (gathered .kept .ranks) (c .plan-block-count .last .ranks) (c .plan-block-count .kept .ranks) (λ one. omega arith) in
     let left : leftBy ps b xs ≡ length s + leftBy ps b rest = left-first ps b xs s (cutBy ps b rest) split in
+    let kept = rest-kept ps b xs (gathered .last .ranks) (gathered .result .length) (gathered .result .end) (gathered .ensures) (gathered .kept .ranks) (c .plan-block-count .last .ranks) (c .plan-block-count .kept .ranks) in
     let parts : length (cutBy ps b xs) ≡ 1 + length (cutBy ps b rest) = ap length split ∙ omega arith in
     let count = c .plan-block-count .ensures .count in
     let few = subtree-few ps (c .args .settings .alpha) (c .args .settings .rho) (c .pre .settings) (c .args .place .block) (c .args .place .next) s (apart-first ps b xs s (cutBy ps b rest) split (c .pre .apart)) in
@@ -173,10 +172,8 @@ plan-sections-add-result t c =
     let gathered = c .gather-section-gathered in
     let blocks = c .plan-block-count .result in
     let s = take (gathered .result .length - 0) (gathered .last .ranks) in
-    let all = c .plan-block-count .last .ranks ++ postOf 0 (gathered .result .length - 0) (gathered .last .ranks) in
-    let rest = take (length all - gathered .result .end) (drop (gathered .result .end) all) in
-    let kept : rest ≡ drop (gathered .result .end) xs = rest-kept ps b xs (gathered .last .ranks) (gathered .result .length) (gathered .result .end) (gathered .ensures) (gathered .kept .ranks) (c .plan-block-count .last .ranks) (c .plan-block-count .kept .ranks) in
-    let split = more-parts ps b xs (gathered .last .ranks) (gathered .result .length) (gathered .result .end) (gathered .ensures) rest kept (λ one. omega arith) in
+    let rest = restOf (gathered .last .ranks) (c .plan-block-count .last .ranks) (gathered .result .length) (gathered .result .end) in
+    let split = more-parts ps b xs (gathered .last .ranks) (gathered .result .length) (gathered .result .end) (gathered .ensures) (gathered .kept .ranks) (c .plan-block-count .last .ranks) (c .plan-block-count .kept .ranks) (λ one. omega arith) in
     let whole = count-on below (λ j. refl) k s (cutBy ps b rest) blocks (c .plan-block-count .ensures .count) (cutBy ps b xs) split in
     let few = forest-few ps (c .args .settings .alpha) (c .args .settings .rho) (c .pre .settings) (c .args .place .block) k (cutBy ps b xs) (distinct-cut (separates ps b) (inBlock ps b) xs (c .pre .apart)) in
     let count = c .plan-sections .ensures .count in
@@ -192,10 +189,8 @@ plan-sections-returns t c =
     let gathered = c .gather-section-gathered in
     let blocks = c .plan-block-count .result in
     let s = take (gathered .result .length - 0) (gathered .last .ranks) in
-    let all = c .plan-block-count .last .ranks ++ postOf 0 (gathered .result .length - 0) (gathered .last .ranks) in
-    let rest = take (length all - gathered .result .end) (drop (gathered .result .end) all) in
-    let kept : rest ≡ drop (gathered .result .end) xs = rest-kept ps b xs (gathered .last .ranks) (gathered .result .length) (gathered .result .end) (gathered .ensures) (gathered .kept .ranks) (c .plan-block-count .last .ranks) (c .plan-block-count .kept .ranks) in
-    let split = more-parts ps b xs (gathered .last .ranks) (gathered .result .length) (gathered .result .end) (gathered .ensures) rest kept (λ one. omega arith) in
+    let rest = restOf (gathered .last .ranks) (c .plan-block-count .last .ranks) (gathered .result .length) (gathered .result .end) in
+    let split = more-parts ps b xs (gathered .last .ranks) (gathered .result .length) (gathered .result .end) (gathered .ensures) (gathered .kept .ranks) (c .plan-block-count .last .ranks) (c .plan-block-count .kept .ranks) (λ one. omega arith) in
     let long = length-first ps b xs (gathered .last .ranks) (gathered .result .length) (gathered .result .end) (gathered .ensures) (gathered .kept .ranks) in
     let empty : gathered .result .length ≡ 0 → c .if-length-eq0 .block ≡ 0 =
     λ e. elim (c .if-length-eq0 .came) [ plan-sections-then-length-eq0 w ↦ w .block-is | plan-sections-else-length-eq0 w ↦ absurd (w .if-length-eq0 .left e) ] in
