@@ -1,10 +1,7 @@
 -- The drawing order of ranks is a strict total order. Assumes nothing.
-use mathlib.Core.Path.{_≡_}
-use mathlib.Core.Bool.{true, false}
 use mathlib.Core.List.{List}
 use Prim.Native.Nat.{ℕ}
 use native.Mathlib.Omega.{arith}
-use lib.ListN.{getD}
 use Rattle.std.proofs.shelf.Ways.{tells}
 use Rattle.tree.specs.Laws.{Strict}
 use Rattle.planner.specs.Drawing.{rankBefore}

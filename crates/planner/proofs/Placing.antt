@@ -1,10 +1,10 @@
 -- Elements written one after the other into a list. Assumes nothing.
 use mathlib.Core.Path.{_≡_, refl, sym, ap, _∙_}
 use mathlib.Core.List.{List, [], _∷_, _++_}
-use Prim.Native.Nat.{ℕ, zero, suc, _+_, _-_, _≤_, _<_}
-use native.Mathlib.Nat.{add-suc, add-zero, zero-add}
+use Prim.Native.Nat.{ℕ, suc, _+_, _≤_, _<_}
+use native.Mathlib.Nat.{add-zero, zero-add}
 use native.Mathlib.Omega.{arith}
-use lib.ListN.{length, set, take, drop, replicate}
+use lib.ListN.{length, set, drop, replicate}
 use lib.Seq.{sets}
 use Rattle.std.proofs.shelf.Edits.{sets-eq}
 use Rattle.std.proofs.shelf.Lists.{set-comm, length-replicate, drop-replicate}

@@ -1,8 +1,8 @@
 -- A block and its sections, as planning finds them, are those of the definition. Assumes nothing.
-use mathlib.Core.Path.{_≡_, refl, sym, ap, ap₂, subst, _∙_}
-use mathlib.Core.Bool.{Bool, true, false, cond}
-use mathlib.Core.List.{List, [], _∷_, _++_, map}
-use Prim.Native.Nat.{ℕ, zero, suc, _+_, _-_, _*_, min, _≤_, _<_}
+use mathlib.Core.Path.{_≡_, refl, sym, ap, ap₂, _∙_}
+use mathlib.Core.Bool.{Bool, true}
+use mathlib.Core.List.{List, [], _∷_, map}
+use Prim.Native.Nat.{ℕ, suc, _+_, _-_, _*_, min, _≤_, _<_}
 use native.Mathlib.Nat.{le-refl}
 use native.Mathlib.Omega.{arith}
 use lib.Count.{ones}
@@ -11,16 +11,15 @@ use lib.Seq.{sets}
 use Rattle.std.specs.shelf.Lists.{All}
 use Rattle.std.proofs.shelf.Elements.{all-kept-by}
 use Rattle.std.proofs.shelf.Lists.{length-append, length-map}
-use Rattle.tree.specs.Tree.{Section, Node, fanOut, cut, intoFirst, forest, numbered, block, isActive, amongEarliest, sections, nodes}
-use Rattle.tree.specs.Laws.{Strict, Distinct}
+use Rattle.tree.specs.Tree.{Node, fanOut, cut, forest, numbered, block, isActive, amongEarliest, sections, nodes}
+use Rattle.tree.specs.Laws.{Distinct}
 use Rattle.tree.proofs.Counting.{kept-by-same, all-join}
 use Rattle.tree.proofs.Cutting.{together, length-cut, cut-lengths}
 use Rattle.tree.proofs.Forest.{forest-same, numbered-same, length-numbered}
 use Rattle.tree.proofs.Nodes.{rootNode, fuel-enough, nodes-few}
-use Rattle.tree.proofs.Sections.{Within, active-in-block, length-block, length-sections, each-section}
+use Rattle.tree.proofs.Sections.{active-in-block, length-block, length-sections, each-section}
 use Rattle.planner.specs.declared.bounds.Bounds.{Bounds}
 use Rattle.planner.specs.declared.row.Row.{Row}
-use Rattle.planner.specs.declared.row.SectionRow.{SectionRow}
 use Rattle.planner.specs.Bounding.{Allowed, inBlock, separates}
 use Rattle.planner.specs.Drawing.{rankBefore}
 use Rattle.planner.specs.Rows.{filled, bits, noSection, sectionRow, rowOf}

@@ -1,8 +1,8 @@
 -- The sections of a block, one after the other. Assumes nothing.
-use mathlib.Core.Path.{_≡_, refl, sym, ap, ap₂, subst, _∙_}
+use mathlib.Core.Path.{_≡_, sym, ap, ap₂, subst, _∙_}
 use mathlib.Core.List.{List, [], _∷_, _++_, map}
 use mathlib.Core.Logic.{_⊎_, inl, inr}
-use Prim.Native.Nat.{ℕ, suc, _+_, _-_, _≤_, _<_}
+use Prim.Native.Nat.{ℕ, _+_, _-_, _≤_, _<_}
 use native.Mathlib.Nat.{add-zero, sub-zero}
 use native.Mathlib.Numerals.{add-one}
 use native.Mathlib.Omega.{arith}
@@ -10,10 +10,10 @@ use borrow.Rule.Slice.PartMut.{postOf}
 use lib.ListN.{length, set, take, drop}
 use lib.Seq.{sets}
 use Rattle.std.specs.shelf.Lists.{All}
-use Rattle.std.proofs.shelf.Lists.{append-nil, map-append, length-append, length-map, length-take-le, take-rest}
+use Rattle.std.proofs.shelf.Lists.{map-append, length-append, length-map, length-take-le, take-rest}
 use Rattle.std.proofs.shelf.Parts.{drop-append-drop}
 use Rattle.tree.specs.Laws.{Distinct}
-use Rattle.tree.specs.Tree.{Section, Node, forest, numbered}
+use Rattle.tree.specs.Tree.{Node, forest, numbered}
 use Rattle.tree.proofs.Cutting.{together, length-cut, distinct-cut}
 use Rattle.planner.specs.declared.bounds.Bounds.{Bounds}
 use Rattle.planner.specs.declared.row.Row.{Row}

@@ -1,9 +1,9 @@
 -- The whole plan: what is allowed, and what the table and the work area hold. Assumes nothing.
-use mathlib.Core.Path.{_≡_, refl, sym, ap, _∙_}
-use mathlib.Core.Bool.{Bool, true, false, _&&_}
-use mathlib.Core.List.{List, [], _∷_, _++_, map}
-use Prim.Native.Nat.{ℕ, _+_, _-_, _≤_, _<_}
-use native.Mathlib.Nat.{sub-zero, zero-add, le-refl}
+use mathlib.Core.Path.{_≡_, sym, ap, _∙_}
+use mathlib.Core.Bool.{true, _&&_}
+use mathlib.Core.List.{List, _++_, map}
+use Prim.Native.Nat.{ℕ, _+_, _-_, _≤_}
+use native.Mathlib.Nat.{sub-zero, zero-add}
 use native.Mathlib.Omega.{arith}
 use borrow.Rule.Slice.PartMut.{postOf}
 use lib.Count.{ones}
@@ -11,13 +11,12 @@ use lib.Dec.{leb}
 use lib.ListN.{length, take, drop, replicate}
 use lib.Seq.{sets}
 use Rattle.std.specs.Iters.{counting}
-use Rattle.std.specs.shelf.Lists.{All}
 use Rattle.std.proofs.shelf.Counted.{length-counting}
 use Rattle.std.proofs.shelf.Edits.{sets-eq}
 use Rattle.std.proofs.shelf.Elements.{all-weaker}
 use Rattle.std.proofs.shelf.Lists.{take-at, drop-at, length-map, length-replicate}
 use Rattle.std.proofs.shelf.Tests.{and-parts, leb-true}
-use Rattle.tree.specs.Tree.{Node, block, isActive, amongEarliest, sections, nodes}
+use Rattle.tree.specs.Tree.{isActive, amongEarliest, sections}
 use Rattle.tree.proofs.Cutting.{length-cut}
 use Rattle.tree.proofs.Forest.{length-numbered}
 use Rattle.tree.proofs.Nodes.{all-nodes}
@@ -27,7 +26,6 @@ use Rattle.planner.specs.Bounding.{Allowed}
 use Rattle.planner.specs.Drawing.{rankBefore}
 use Rattle.planner.specs.Plan.{plannable, rankTree, overwritten, Mask-tells-sections}
 use Rattle.planner.specs.Rows.{rowOf}
-use Rattle.planner.specs.Subtrees.{subtree}
 use Rattle.planner.proofs.Apart.{distinct-counting}
 use Rattle.planner.proofs.Choosing.{all-unit}
 use Rattle.planner.proofs.Filling.{ones-marks}

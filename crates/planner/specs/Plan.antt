@@ -1,16 +1,15 @@
 -- The plan of some entries. Assumes nothing.
 use mathlib.Core.Path.{_≡_}
-use mathlib.Core.Bool.{Bool, true, cond, _&&_}
+use mathlib.Core.Bool.{Bool, _&&_}
 use mathlib.Core.List.{List, _++_, map}
 use Prim.Native.Nat.{ℕ, _+_, _<_}
 use lib.Count.{ones}
 use lib.Dec.{leb}
-use lib.ListN.{length, getD, drop, replicate}
+use lib.ListN.{length, getD, drop}
 use Rattle.std.specs.Iters.{counting}
 use Rattle.std.specs.shelf.Lists.{All}
 use Rattle.tree.specs.Laws.{mapNode}
 use Rattle.tree.specs.Tree.{Node, tree}
-use Rattle.planner.specs.declared.row.Row.{Row}
 use Rattle.planner.specs.Drawing.{rankBefore}
 use Rattle.planner.specs.Rows.{rowOf}
 

@@ -1,24 +1,22 @@
-use mathlib.Core.Path.{_≡_, refl, sym, ap, subst, _∙_}
-use mathlib.Core.Bool.{true, cond}
+use mathlib.Core.Path.{_≡_, sym, ap, subst, _∙_}
 use mathlib.Core.List.{List, _++_, map}
-use Prim.Native.Nat.{ℕ, _+_, _-_, _≤_, _<_}
+use Prim.Native.Nat.{ℕ, _-_, _≤_}
 use native.Mathlib.Nat.{sub-zero}
 use native.Mathlib.Omega.{arith}
 use borrow.Author.Needs.{needs}
 use borrow.Rule.Slice.PartMut.{postOf}
-use lib.ListN.{length, take, drop, replicate}
+use lib.ListN.{length, take, replicate}
 use lib.Seq.{sets}
 use Rattle.std.specs.Iters.{counting}
-use Rattle.std.specs.declared.option.Option.the-variants.{Some, None}
+use Rattle.std.specs.declared.option.Option.the-variants.{Some}
 use Rattle.std.proofs.shelf.Counted.{length-counting}
-use Rattle.std.proofs.shelf.Lists.{length-take-le, length-replicate}
+use Rattle.std.proofs.shelf.Lists.{length-take-le}
 use Rattle.std.proofs.shelf.Tests.{cond-true}
 use Rattle.tree.specs.Laws.{Distinct}
-use Rattle.planner.specs.Plan.{plannable, rankTree, overwritten}
 use Rattle.planner.specs.Rows.{rowOf}
 use Rattle.planner.specs.Subtrees.{subtree}
 use Rattle.planner.proofs.Apart.{distinct-counting}
-use Rattle.planner.proofs.Whole.{Fitting, plannable-fits, front-written, front-cleared, rows-overwritten, mask-tells}
+use Rattle.planner.proofs.Whole.{plannable-fits, front-written, front-cleared, rows-overwritten, mask-tells}
 use Rattle.planner.proofs.plan_tree.Needs as need
 
 -- the work area's front is as long as there are entries

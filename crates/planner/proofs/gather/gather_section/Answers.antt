@@ -1,11 +1,10 @@
-use mathlib.Core.Path.{_≡_, refl, sym, ap, _∙_}
+use mathlib.Core.Path.{refl, sym, _∙_}
 use mathlib.Core.Logic.{inl, inr}
-use Prim.Native.Nat.{ℕ, _+_, _≤_, _<_}
+use Prim.Native.Nat.{_≤_, _<_}
 use native.Mathlib.Omega.{arith}
 use lib.ListN.{length, getD}
 use Rattle.std.proofs.shelf.Lists.{drop-all}
-use Rattle.planner.specs.Bounding.{inBlock, separates}
-use Rattle.planner.proofs.Gathering.{Gathering, gathering-none, rest-next, gathered-to, gathering-skip, gathering-more, gathered-all}
+use Rattle.planner.proofs.Gathering.{gathering-none, rest-next, gathered-to, gathering-skip, gathering-more, gathered-all}
 use Rattle.planner.proofs.gather.gather_section.Needs as need
 use Rattle.planner.proofs.gather.gather_section.Needs.{then-not-holds, else-not-holds}
 

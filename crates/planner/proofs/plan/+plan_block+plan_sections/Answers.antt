@@ -1,13 +1,11 @@
 -- Planning a block, and planning its sections, lay down the rows of the definition's nodes.
 use mathlib.Core.Path.{_≡_, refl, sym, ap, subst, _∙_}
-use mathlib.Core.List.{List, [], _∷_, map}
-use Prim.Native.Nat.{ℕ, _+_, _-_, _*_, _≤_, _<_}
+use mathlib.Core.List.{[], map}
+use Prim.Native.Nat.{_+_, _-_, _*_, _<_}
 use native.Mathlib.Omega.{arith}
-use lib.Count.{ones}
-use lib.ListN.{length, set, take, drop}
+use lib.ListN.{length, set, take}
 use lib.Seq.{sets}
 use Rattle.tree.specs.Laws.{Distinct}
-use Rattle.planner.specs.declared.row.Row.{Row}
 use Rattle.tree.specs.Tree.{numbered}
 use Rattle.tree.proofs.Cutting.{distinct-cut}
 use Rattle.tree.proofs.Nodes.{rootNode}
