@@ -12,7 +12,8 @@ use Rattle.std.proofs.shelf.Elements.{all-has, all-has-itself, all-weaker, has-
 use Rattle.std.proofs.shelf.Tests.{both-ways, cases-order, cases-lt, cases-bool, lt-ltb, le-ltb, ltb-true, ltb-false}
 use Rattle.tree.specs.Tree.{drawnBefore, amongEarliest}
 use Rattle.tree.specs.Laws.{Strict}
-use Rattle.tree.proofs.Counting.{all-join, drawnBefore-le, drawnBefore-lt, drawnBefore-le-length, one-first}
+use Rattle.tree.proofs.Counting.{drawnBefore-le, drawnBefore-lt, drawnBefore-le-length, one-first}
+use Rattle.tree.proofs.Lists.{all-join}
 use Rattle.planner.specs.Steps.{Earliest, PlaceMade}
 
 -- what is true of everything is true of each element

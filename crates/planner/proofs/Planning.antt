@@ -13,7 +13,7 @@ use Rattle.std.proofs.shelf.Elements.{all-kept-by}
 use Rattle.std.proofs.shelf.Lists.{length-append, length-map}
 use Rattle.tree.specs.Tree.{Node, fanOut, cut, forest, numbered, block, isActive, amongEarliest, sections, nodes}
 use Rattle.tree.specs.Laws.{Distinct}
-use Rattle.tree.proofs.Counting.{kept-by-same, all-join}
+use Rattle.tree.proofs.Lists.{kept-by-same, all-join}
 use Rattle.tree.proofs.Cutting.{together, length-cut, cut-lengths}
 use Rattle.tree.proofs.Forest.{forest-same, numbered-same, length-numbered}
 use Rattle.tree.proofs.Nodes.{rootNode, fuel-enough, nodes-few}
@@ -95,7 +95,7 @@ module _ (ps : List ℕ) (alpha rho : ℕ) (allowed : Allowed alpha rho) where
         }
       where
         held : length (heldBy ps b xs) ≡ min alpha (length xs)
-        held = ap length held-is ∙ length-block (strict ps) alpha rho xs (all-unit xs) apart
+        held = ap length held-is ∙ length-block (strict ps) alpha xs (all-unit xs) apart
 
         left : length (heldBy ps b xs) + leftBy ps b xs ≡ length xs
         left = rw (held-is, parts-are) (cut-lengths _ _ (active-in-block (rankBefore ps) alpha rho xs) xs)
