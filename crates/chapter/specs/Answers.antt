@@ -9,7 +9,8 @@ use Rattle.std.specs.declared.option.Option.the-variants.{None, Some}
 use Rattle.std.specs.declared.result.Result.{Result}
 use Rattle.std.specs.declared.result.Result.the-variants.{Ok, Err}
 use Rattle.kinds.specs.Kind.{Kind}
-use Rattle.image.specs.Reading.{Head, readHead}
+use Rattle.image.specs.declared.head.Head.{Head}
+use Rattle.image.specs.Reading.{readHead}
 
 -- an answer: a value, or the number and place of the refusal
 abbrev pub Answer : Type 0 → Type 0

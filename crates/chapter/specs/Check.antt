@@ -10,7 +10,8 @@ use Rattle.std.specs.shelf.Text.{sameBytes}
 use Rattle.kinds.specs.Kind.{Kind}
 use Rattle.image.specs.Image.{image}
 use Rattle.image.specs.Messages.{keyOf, standing, put}
-use Rattle.image.specs.Reading.{Head, slots, wellFormed, every}
+use Rattle.image.specs.declared.head.Head.{Head}
+use Rattle.image.specs.Reading.{slots, wellFormed, every}
 use Rattle.chapter.specs.Answers.{Answer, andThen, need, blockAt, headOf}
 
 -- messages put into a set one after the other
@@ -28,7 +29,7 @@ abbrev pub gather : Kind → Head → List (List ℕ) → (k b : ℕ) → List (
 gather kind head blocks zero b found = Ok found
 gather kind head blocks (suc k) b found =
     andThen (blockAt blocks b) λ bytes.
-    let ms = slots kind (head .settings .alpha) bytes in
+    let ms = slots kind bytes in
     need (wellFormed kind (head .settings .alpha) (head .counts .blocks) b bytes && (newKeys kind found ms && leb (length found + length ms) (head .counts .entries))) (22, b)
     (gather kind head blocks k (b + 1) (putAll kind ms found))
 

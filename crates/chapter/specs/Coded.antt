@@ -1,20 +1,13 @@
 -- The number and place of every refusal of a chapter, and the value of every outcome. Assumes nothing.
 use Prim.Native.Nat.{ℕ}
 use Rattle.stores.specs.Faults as stores
+use Rattle.image.specs.Coded.{settingCoded}
 use Rattle.chapter.specs.declared.answer.Outcome.{Outcome}
 use Rattle.chapter.specs.declared.answer.Outcome.the-variants.{New, Replaced, Overtaken}
 use Rattle.chapter.specs.declared.fault.ChapterFault.{ChapterFault}
 use Rattle.chapter.specs.declared.fault.ChapterFault.the-variants.{Store, TreeTooLarge, WrongHead, WrongBlock, WrongLength, InvalidField, Full, WorkTooShort, OutOfLimits, StoreTooSmall, NoLines}
-use Rattle.chapter.specs.declared.fault.Setting.{Setting}
-use Rattle.chapter.specs.declared.fault.Setting.the-variants.{Alpha, Rho, Capacity}
 
--- the settings counted from 1
-abbrev pub settingPlace : Setting → ℕ
-settingPlace Alpha = 1
-settingPlace Rho = 2
-settingPlace Capacity = 3
-
--- the store's refusals (11 and 12) are carried whole
+-- the store's refusals (11 and 12) are carried whole, and so is that of a setting (27)
 abbrev pub coded : ChapterFault → ℕ × ℕ
 coded (Store fault) = stores.coded fault
 coded (TreeTooLarge capacity) = (20, capacity)
@@ -24,7 +17,7 @@ coded (WrongLength length) = (23, length)
 coded (InvalidField at) = (24, at)
 coded (Full entries) = (25, entries)
 coded (WorkTooShort needed) = (26, needed)
-coded (OutOfLimits setting) = (27, settingPlace setting)
+coded (OutOfLimits setting) = settingCoded setting
 coded (StoreTooSmall needed) = (28, needed)
 coded NoLines = (29, 0)
 

@@ -13,7 +13,7 @@ use Rattle.kinds.specs.Paragraphs.{paragraphs}
 use Rattle.image.specs.Image.{zeroBlock}
 use Rattle.image.specs.Messages.{keyOf}
 use Rattle.image.specs.Reading.{field, mask, slots}
-use Rattle.image.specs.Settings.{Settings}
+use Rattle.image.specs.declared.settings.Settings.{Settings}
 use Rattle.chapter.specs.Deliver.{deliverAnswer, deliverBlocks}
 use Rattle.chapter.specs.Layout.{layOutAnswer, layOutBlocks}
 use Rattle.chapter.specs.LookUp.{Found, lookUpAnswer}
@@ -59,7 +59,7 @@ eightWithCut = deliverBlocks paragraphs work (paragraph 2 2 0 2) eight
 
 -- the places in the tree's blocks, block by block
 abbrev pub placesIn : (u : ℕ) → List (List ℕ) → List (List ℕ)
-placesIn u blocks = map (λ bytes. map (field 0 4) (slots paragraphs 2 bytes)) (take u (drop 1 blocks))
+placesIn u blocks = map (λ bytes. map (field 0 4) (slots paragraphs bytes)) (take u (drop 1 blocks))
 
 pub record Worked-examples : Type 0 where
   -- place 1 has priority 9DF5h

@@ -9,7 +9,8 @@ use Rattle.std.specs.declared.option.Option.the-variants.{None, Some}
 use Rattle.std.specs.declared.result.Result.the-variants.{Ok, Err}
 use Rattle.kinds.specs.Kind.{Kind}
 use Rattle.image.specs.Image.{image}
-use Rattle.image.specs.Settings.{Settings, settingsRefusal}
+use Rattle.image.specs.declared.settings.Settings.{Settings}
+use Rattle.image.specs.Settings.{settingsRefusal}
 use Rattle.chapter.specs.Answers.{Answer, need, ifAccepted}
 
 abbrev pub unlessRefused : {X : Type 0} → Option (ℕ × ℕ) → Answer X → Answer X

@@ -1,37 +1,23 @@
 -- Look up: the message of a key, found along one path of the tree. Assumes nothing.
-use mathlib.Core.Bool.{Bool, cond, _&&_}
-use mathlib.Core.List.{List, [], _∷_}
+use mathlib.Core.Bool.{cond}
+use mathlib.Core.List.{List}
 use Prim.Native.Nat.{ℕ, zero, suc, _+_}
 use lib.Dec.{eqb}
 use lib.ListN.{length}
-use Rattle.std.specs.Orderings.{isLt}
 use Rattle.std.specs.declared.option.Option.{Option}
 use Rattle.std.specs.declared.option.Option.the-variants.{None, Some}
 use Rattle.std.specs.declared.result.Result.the-variants.{Ok, Err}
 use Rattle.kinds.specs.Kind.{Kind}
-use Rattle.image.specs.Messages.{keyOf, standing}
-use Rattle.image.specs.Reading.{Head, activeAt, slots, sectionAt, wellFormed}
+use Rattle.image.specs.declared.head.Head.{Head}
+use Rattle.image.specs.Reading.{wellFormed}
+use Rattle.image.specs.Walk.{inBlock, nextBlock}
 use Rattle.chapter.specs.Answers.{Answer, andThen, need, blockAt, headOf}
-
--- how many active separators, among the messages from slot i on, are below the key
-abbrev pub separatorsBelow : Kind → List ℕ → List ℕ → (i : ℕ) → List (List ℕ) → ℕ
-separatorsBelow kind key bytes i [] = 0
-separatorsBelow kind key bytes i (m ∷ ms) =
-    cond (activeAt bytes i && isLt (kind .keyOrder (keyOf kind m) key)) 1 0 + separatorsBelow kind key bytes (i + 1) ms
 
 -- block b of the tree, which is there (11) and well formed (22)
 abbrev pub treeBlockAt : Kind → Head → List (List ℕ) → ℕ → Answer (List ℕ)
 treeBlockAt kind head blocks b =
     andThen (blockAt blocks b) λ bytes.
     need (wellFormed kind (head .settings .alpha) (head .counts .blocks) b bytes) (22, b) (Ok bytes)
-
--- the section that a key belongs to
-abbrev pub sectionFor : Kind → Head → List ℕ → List ℕ → ℕ
-sectionFor kind head key bytes = separatorsBelow kind key bytes 0 (slots kind (head .settings .alpha) bytes)
-
--- the number of the block of that section, 0 if it has none
-abbrev pub nextBlock : Kind → Head → List ℕ → List ℕ → ℕ
-nextBlock kind head key bytes = sectionAt kind (head .settings .alpha) bytes (sectionFor kind head key bytes) .number
 
 -- what a look-up finds, and the number of blocks read
 pub record Found : Type 0 where
@@ -49,9 +35,9 @@ abbrev pub walk : Kind → Head → List ℕ → List (List ℕ) → (steps b re
 walk kind head key blocks zero b reads = Ok (record { message = None; reads = reads })
 walk kind head key blocks (suc steps) b reads =
     andThen (treeBlockAt kind head blocks b) λ bytes.
-    let next = nextBlock kind head key bytes in
+    let next = nextBlock kind key (head .settings .alpha) bytes in
     let onward = walk kind head key blocks steps next (reads + 1) in
-    foundOr (standing kind key (slots kind (head .settings .alpha) bytes)) (reads + 1) next onward
+    foundOr (inBlock kind key bytes) (reads + 1) next onward
 
 -- block 0 is read, and then the path from block 1 on; a tree of no blocks has no entry
 abbrev pub search : Kind → List ℕ → List (List ℕ) → Answer Found

@@ -1,37 +1,25 @@
 -- Page: on which page an entry begins. Assumes nothing.
-use mathlib.Core.Bool.{Bool, cond}
-use mathlib.Core.List.{List, [], _∷_}
+use mathlib.Core.Bool.{cond}
+use mathlib.Core.List.{List}
 use Prim.Native.Nat.{ℕ, zero, suc, _+_, _/_}
 use lib.Dec.{eqb, ltb}
-use lib.ListN.{length, take}
-use Rattle.std.specs.Orderings.{isLt}
+use lib.ListN.{length}
 use Rattle.std.specs.declared.option.Option.{Option}
 use Rattle.std.specs.declared.option.Option.the-variants.{None, Some}
 use Rattle.std.specs.declared.result.Result.the-variants.{Ok, Err}
-use Rattle.std.specs.shelf.Lists.{sumBy}
 use Rattle.kinds.specs.Kind.{Kind}
-use Rattle.image.specs.Messages.{keyOf}
-use Rattle.image.specs.Reading.{Head, slots, sectionsOf}
+use Rattle.image.specs.Walk.{measureBefore, nextBlock}
+use Rattle.image.specs.declared.head.Head.{Head}
 use Rattle.chapter.specs.Answers.{Answer, andThen, need, headOf}
-use Rattle.chapter.specs.LookUp.{Found, sectionFor, nextBlock, treeBlockAt, search}
-
--- the measure of the messages that are below the key
-abbrev pub measureBelow : Kind → List ℕ → List (List ℕ) → ℕ
-measureBelow kind key [] = 0
-measureBelow kind key (m ∷ ms) = cond (isLt (kind .keyOrder (keyOf kind m) key)) (kind .measured m) 0 + measureBelow kind key ms
-
--- what a block has before the key: its entries below it, and the sections left of the one that the key belongs to
-abbrev pub linesIn : Kind → Head → List ℕ → List ℕ → ℕ
-linesIn kind head key bytes =
-    measureBelow kind key (slots kind (head .settings .alpha) bytes) + sumBy (λ s. s .measure) (take (sectionFor kind head key bytes) (sectionsOf kind (head .settings .alpha) bytes))
+use Rattle.chapter.specs.LookUp.{Found, treeBlockAt, search}
 
 -- summed along the path from block b to its end, past the key's own block
 abbrev pub linesBefore : Kind → Head → List ℕ → List (List ℕ) → (steps b lines : ℕ) → Answer ℕ
 linesBefore kind head key blocks zero b lines = Ok lines
 linesBefore kind head key blocks (suc steps) b lines =
     andThen (treeBlockAt kind head blocks b) λ bytes.
-    let next = nextBlock kind head key bytes in
-    let sum = lines + linesIn kind head key bytes in
+    let next = nextBlock kind key (head .settings .alpha) bytes in
+    let sum = lines + measureBefore kind key (head .settings .alpha) bytes in
     let onward = linesBefore kind head key blocks steps next sum in
     cond (eqb next 0) (Ok sum) onward
 

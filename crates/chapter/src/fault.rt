@@ -2,18 +2,14 @@
 ghost use mathlib.Core.Path.{_≡_};
 ghost use Rattle.chapter.specs.Coded.{coded};
 ghost use Rattle.chapter.specs.declared.fault.ChapterFault.the-variants.{Store as Carried};
+use image::Setting;
+use image::SettingDebug;
+use image::SettingEq;
+use image::SettingPartialEq;
 use stores::StoreFault;
 use stores::StoreFaultDebug;
 use stores::StoreFaultEq;
 use stores::StoreFaultPartialEq;
-
-// The settings of a chapter, in the order in which they are tested.
-#[derive(Clone, Copy, PartialEq, Eq, Debug)]
-pub enum Setting {
-    Alpha,
-    Rho,
-    Capacity,
-}
 
 // `coded` has the number and the place of each.
 #[derive(Clone, Copy, PartialEq, Eq, Debug)]

@@ -6,7 +6,6 @@ ghost use Rattle.chapter.specs.Examples.{Worked-examples};
 pub use answer::Outcome;
 pub use fault::ChapterFault;
 pub use fault::FromStoreFault;
-pub use fault::Setting;
 
 // The worked examples, all together: chapters filled by the definitions of the calls, and what the calls then answer.
 pub fn worked_examples()

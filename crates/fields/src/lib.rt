@@ -1,6 +1,6 @@
 // Fields of several bytes, the lowest byte first, read from any bytes; and the lemmas on them that every layer shares.
 ghost use mathlib.Core.Path.{_≡_};
-ghost use Prim.Native.Nat.{_+_};
+ghost use Prim.Native.Nat.{_+_, _*_};
 ghost use lib.ListN.{getD};
 ghost use Rattle.fields.specs.Numbers.{number, part};
 
@@ -38,4 +38,19 @@ pub fn u32_at(bytes: &[u8], at: usize) -> u32
         byte_past(bytes, at, 2),
         byte_past(bytes, at, 3),
     ])
+}
+
+// The bytes from an offset on, so many of them, or as many as there are.
+pub fn slice_at(bytes: &[u8], at: usize, count: usize) -> &[u8]
+    ensures { λ r. ⌜ now r ≡ part at count (now (bytes .entry)) ⌝ }
+{
+    let rest = &bytes[at.min(bytes.len())..];
+    &rest[0..count.min(rest.len())]
+}
+
+// Piece i of pieces of one width that lie one after the other from an offset on.
+pub fn piece_at(bytes: &[u8], start: usize, width: usize, i: usize) -> &[u8]
+    ensures { λ r. ⌜ now r ≡ part (start + i * width) width (now (bytes .entry)) ⌝ }
+{
+    slice_at(bytes, i.saturating_mul(width).saturating_add(start), width)
 }

@@ -3,10 +3,11 @@ use mathlib.Core.Path.{_≡_, refl, sym, ap, ap₂, _∙_}
 use mathlib.Core.Bool.{Bool, true, false, cond}
 use mathlib.Core.List.{List, [], _∷_, _++_, map, append-assoc}
 use Prim.Native.Nat.{ℕ, zero, suc, _+_, _-_, _*_, _/_, _%_, _^_, _≤_, _<_}
-use native.Mathlib.Nat.{pow-succ', mul-le-mul-right, div-one, div-div-eq-div-mul}
+use native.Mathlib.Nat.{pow-succ', mul-le-mul-right, div-one, div-div-eq-div-mul, div-eq-of-lt}
 use native.Mathlib.Omega.{arith}
 use lib.Count.{ones, ones-step}
-use lib.Dec.{eqb, leb}
+use lib.Bits.{bitAnd, and-mask}
+use lib.Dec.{eqb, leb, ltb}
 use lib.Pow.{pow-mono}
 use lib.ListN.{length, take, drop, getD, replicate}
 use Rattle.std.specs.shelf.Lists.{All, joined, countBy}
@@ -14,7 +15,7 @@ use Rattle.std.proofs.shelf.Counted.{fill-by-all}
 use Rattle.std.proofs.shelf.Elements.{all-append, all-getD}
 use Rattle.std.proofs.shelf.Lists.{length-append, length-map, length-replicate, getD-map, drop-at, drop-drop}
 use Rattle.std.proofs.shelf.Sums.{sumBy-cons, countBy-le-length}
-use Rattle.std.proofs.shelf.Tests.{and-parts, leb-true}
+use Rattle.std.proofs.shelf.Tests.{and-parts, leb-true, le-ltb}
 use Rattle.fields.specs.Numbers.{Bytes, number, le, part}
 use Rattle.fields.proofs.Numbers.{length-le, bytes-le, number-le}
 use Rattle.fields.proofs.Parts.{part-past, length-joined, part-joined}
@@ -23,7 +24,8 @@ use Rattle.tree.specs.Tree.{Section, Node}
 use Rattle.image.specs.Image.{filled, blockOf, maskOf, sectionRecord, treeBlock}
 use Rattle.image.specs.Laws.{Block, sectionSays, SectionFits, NodeFits, ReadsBack, TreeBlockLaws, Tree-block-reads-back}
 use Rattle.image.specs.Messages.{totalMeasure}
-use Rattle.image.specs.Reading.{SectionFields, sectionFields, field, mask, activeAt, sectionCount, slots, slot, sectionAt, sectionsOf}
+use Rattle.image.specs.declared.section.SectionFields.{SectionFields}
+use Rattle.image.specs.Reading.{sectionFields, field, mask, activeAt, sectionCount, slots, slot, sectionAt, sectionsOf}
 use Rattle.image.specs.Settings.{alphaFits}
 
 pub length-filled : {X : Type 0} (x : X) (n : ℕ) (xs : List X) → length xs ≤ n → length (filled x n xs) ≡ n
@@ -147,7 +149,7 @@ module _ (kind : Kind) (alpha : ℕ) (node : Node (List ℕ)) (lawful : Lawful k
   regrouped : laid ++ zeros ≡ messageBytes ++ (unused ++ (records ++ zeros))
   regrouped = simp append-assoc
 
-  slot-back : (i : ℕ) → i < length (node .entries) → slot kind alpha (treeBlock kind alpha node) i ≡ getD (node .entries) i []
+  slot-back : (i : ℕ) → i < length (node .entries) → slot kind (treeBlock kind alpha node) i ≡ getD (node .entries) i []
   slot-back i lt =
       part-after (i * kind .width) (kind .width)
       ∙ ap (part (i * kind .width) (kind .width)) regrouped
@@ -188,7 +190,7 @@ module _ (kind : Kind) (alpha : ℕ) (node : Node (List ℕ)) (lawful : Lawful k
     active = λ i lt. ap (λ m. eqb (m / 2 ^ i % 2) 1) mask-back ∙ bit-of-mask (node .active) i lt;
     weight = number-le 2 (node .weight) (fits .weight);
     parent = number-le 2 (node .parent) (fits .parent);
-    messages = sym (fill-by-all (slot kind alpha (treeBlock kind alpha node)) (node .entries) _ [] refl (λ i lt. sym (slot-back i lt)));
+    messages = sym (fill-by-all (slot kind (treeBlock kind alpha node)) (node .entries) _ [] refl (λ i lt. sym (slot-back i lt)));
     sections = sections-back;
   }
 
@@ -209,3 +211,12 @@ pub tree-block-reads-back : Tree-block-reads-back
 tree-block-reads-back kind alpha node lawful fit fits =
     let r = room (kind .width) alpha fit in
     record { block = node-block kind alpha node lawful fits r; reads-back = node-reads-back kind alpha node lawful fits r }
+
+-- a bit of the mask by a shift, and past its sixteen bits
+pub shifted-bit : (m i : ℕ) → eqb (bitAnd (m / 2 ^ i) 1) 1 ≡ eqb (m / 2 ^ i % 2) 1
+shifted-bit m i = ap (λ n. eqb n 1) (and-mask (m / 2 ^ i) 1)
+
+pub no-bit : (m i : ℕ) → m < 65536 → 16 ≤ i → ltb i 16 ≡ eqb (m / 2 ^ i % 2) 1
+no-bit m i small past =
+    let none : m / 2 ^ i ≡ 0 = div-eq-of-lt (omega (arith, pow-mono past)) in
+    le-ltb i 16 past ∙ sym (ap (λ n. eqb (n % 2) 1) none)

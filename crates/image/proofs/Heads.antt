@@ -10,10 +10,13 @@ use Rattle.std.proofs.shelf.Tests.{and-from, and-parts, leb-true, le-leb, eq-eq
 use Rattle.fields.specs.Numbers.{le}
 use Rattle.fields.proofs.Numbers.{bytes-le, number-le}
 use Rattle.kinds.specs.Kind.{Kind, Lawful}
-use Rattle.image.specs.Image.{Counts, headMark, headVersion, headBlock}
+use Rattle.image.specs.declared.head.Counts.{Counts}
+use Rattle.image.specs.Image.{headMark, headVersion, headBlock}
 use Rattle.image.specs.Laws.{Block, CountsFit, HeadLaws, Head-reads-back}
-use Rattle.image.specs.Reading.{Head, headFields, headRight}
-use Rattle.image.specs.Settings.{Settings, alphaFits, upTo2000, settingsFit}
+use Rattle.image.specs.declared.head.Head.{Head}
+use Rattle.image.specs.Reading.{headFields, headRight}
+use Rattle.image.specs.declared.settings.Settings.{Settings}
+use Rattle.image.specs.Settings.{alphaFits, upTo2000, settingsFit}
 use Rattle.image.proofs.Blocks.{block-of, bytes-then}
 
 -- the limits of the settings, as numbers

@@ -21,7 +21,8 @@ use Rattle.tree.proofs.Nodes.{nodes-lawful, nodes-few}
 use Rattle.image.specs.Image.{filled, zeroBlock, treeBlock, headBlock, treeOf, countsOf, image}
 use Rattle.image.specs.Laws.{Block, SectionFits, NodeFits, CountsFit, ImageLaws, Image-reads-back}
 use Rattle.image.specs.Messages.{Valid, Messages, totalMeasure, before}
-use Rattle.image.specs.Settings.{Settings, settingsFit}
+use Rattle.image.specs.declared.settings.Settings.{Settings}
+use Rattle.image.specs.Settings.{settingsFit}
 use Rattle.image.proofs.Blocks.{length-filled, bytes-zeros, tree-block-reads-back}
 use Rattle.image.proofs.Drawn.{messages-apart, messages-strict}
 use Rattle.image.proofs.Heads.{Limits, limits, head-reads-back}

@@ -8,8 +8,9 @@ use Rattle.std.specs.shelf.Lists.{joined}
 use Rattle.fields.specs.Numbers.{le}
 use Rattle.kinds.specs.Kind.{Kind}
 use Rattle.tree.specs.Tree.{Section, Node, tree}
+use Rattle.image.specs.declared.head.Counts.{Counts}
 use Rattle.image.specs.Messages.{before, totalMeasure}
-use Rattle.image.specs.Settings.{Settings}
+use Rattle.image.specs.declared.settings.Settings.{Settings}
 
 -- filled up with x to n elements
 abbrev pub filled : {X : Type 0} → X → ℕ → List X → List X
@@ -28,12 +29,6 @@ headMark = codes "GAL"
 
 abbrev pub headVersion : ℕ
 headVersion = 1
-
--- what block 0 says of the chapter: entries, tree blocks, total measure
-pub record Counts : Type 0 where
-  pub entries : ℕ
-  pub blocks : ℕ
-  pub measure : ℕ
 
 -- the mask of the active separators: bit i is set if slot i has one
 abbrev pub maskOf : List Bool → ℕ

@@ -9,10 +9,14 @@ use Rattle.std.specs.shelf.Lists.{All, countBy}
 use Rattle.fields.specs.Numbers.{Bytes}
 use Rattle.kinds.specs.Kind.{Kind, Lawful}
 use Rattle.tree.specs.Tree.{Section, Node}
-use Rattle.image.specs.Image.{Counts, maskOf, headBlock, treeBlock, treeOf, countsOf, image}
+use Rattle.image.specs.declared.head.Counts.{Counts}
+use Rattle.image.specs.Image.{maskOf, headBlock, treeBlock, treeOf, countsOf, image}
 use Rattle.image.specs.Messages.{totalMeasure, Messages}
-use Rattle.image.specs.Reading.{Head, SectionFields, readHead, field, entryCount, mask, activeAt, slots, sectionsOf}
-use Rattle.image.specs.Settings.{Settings, alphaFits, settingsFit}
+use Rattle.image.specs.declared.head.Head.{Head}
+use Rattle.image.specs.declared.section.SectionFields.{SectionFields}
+use Rattle.image.specs.Reading.{readHead, field, entryCount, mask, activeAt, slots, sectionsOf}
+use Rattle.image.specs.declared.settings.Settings.{Settings}
+use Rattle.image.specs.Settings.{alphaFits, settingsFit}
 
 -- a block: 256 bytes
 pub record Block (bytes : List ℕ) : Type 0 where
@@ -49,7 +53,7 @@ pub record ReadsBack (kind : Kind) (alpha : ℕ) (node : Node (List ℕ)) (bytes
   pub active : (i : ℕ) → i < length (node .active) → activeAt bytes i ≡ getD (node .active) i false
   pub weight : field 4 2 bytes ≡ node .weight
   pub parent : field 6 2 bytes ≡ node .parent
-  pub messages : slots kind alpha bytes ≡ node .entries
+  pub messages : slots kind bytes ≡ node .entries
   pub sections : sectionsOf kind alpha bytes ≡ map (sectionSays kind) (node .sections)
 
 -- a node that fits has a block of 256 bytes, and it reads back

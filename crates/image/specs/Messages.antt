@@ -14,6 +14,12 @@ use Rattle.drawing.specs.Drawing.{drawnBefore}
 use Rattle.fields.specs.Numbers.{Bytes}
 use Rattle.kinds.specs.Kind.{Kind}
 
+-- by how the key of a message compares with the one sought: look further, this one, or none
+abbrev pub foundBy : Ordering → List ℕ → Option (List ℕ) → Option (List ℕ)
+foundBy Less m further = further
+foundBy Equal m further = Some m
+foundBy Greater m further = None
+
 module _ (kind : Kind) where
   -- the key is the front of a message
   abbrev pub keyOf : List ℕ → List ℕ
@@ -44,10 +50,10 @@ module _ (kind : Kind) where
   abbrev pub totalMeasure : List (List ℕ) → ℕ
   totalMeasure ms = sumBy (kind .measured) ms
 
-  -- the message with the key, if there is one
+  -- the message with the key, if there is one: keys rise, so a larger key ends the search
   abbrev pub standing : List ℕ → List (List ℕ) → Option (List ℕ)
   standing key [] = None
-  standing key (m ∷ ms) = elim (kind .keyOrder (keyOf m) key) [ Less ↦ standing key ms | Equal ↦ Some m | Greater ↦ None ]
+  standing key (m ∷ ms) = foundBy (kind .keyOrder (keyOf m) key) m (standing key ms)
 
   -- of two messages with one key the one that ranks higher; the first if neither does
   abbrev pub higher : List ℕ → List ℕ → List ℕ

@@ -13,19 +13,17 @@ use Rattle.std.specs.declared.option.Option.the-variants.{None, Some}
 use Rattle.std.specs.shelf.Text.{sameBytes}
 use Rattle.fields.specs.Numbers.{number, part}
 use Rattle.kinds.specs.Kind.{Kind}
-use Rattle.image.specs.Image.{headMark, headVersion, Counts}
+use Rattle.image.specs.declared.head.Head.{Head}
+use Rattle.image.specs.declared.section.SectionFields.{SectionFields}
+use Rattle.image.specs.declared.head.Counts.{Counts}
+use Rattle.image.specs.Image.{headMark, headVersion}
 use Rattle.image.specs.Messages.{keyOf}
-use Rattle.image.specs.Settings.{Settings, settingsFit}
+use Rattle.image.specs.declared.settings.Settings.{Settings}
+use Rattle.image.specs.Settings.{settingsFit}
 
 -- the number in the k bytes from an offset on
 abbrev pub field : (at k : ℕ) → List ℕ → ℕ
 field at k bytes = number (part at k bytes)
-
--- what a head says
-pub record Head : Type 0 where
-  pub settings : Settings
-  pub counts : Counts
-  pub chapter : ℕ
 
 abbrev pub headFields : List ℕ → Head
 headFields bytes =
@@ -35,12 +33,18 @@ headFields bytes =
       chapter = field 19 4 bytes;
     }
 
--- mark, version and kind are right, the settings fit, there are no more entries than the capacity, and no more blocks than
--- entries
+-- the settings fit, there are no more entries than the capacity, and no more blocks than entries
+abbrev pub headSound : (width : ℕ) → Head → Bool
+headSound width head =
+    settingsFit width (head .settings) && (leb (head .counts .entries) (head .settings .capacity) && leb (head .counts .blocks) (head .counts .entries))
+
+-- mark and version are those of a chapter
+abbrev pub isChapter : List ℕ → Bool
+isChapter bytes = sameBytes (part 0 3 bytes) headMark && eqb (field 3 2 bytes) headVersion
+
+-- mark, version and kind are right, and what the head says is sound
 abbrev pub headRight : Kind → List ℕ → Bool
-headRight kind bytes =
-    let head = headFields bytes in
-    sameBytes (part 0 3 bytes) headMark && (eqb (field 3 2 bytes) headVersion && (eqb (getD bytes 5 0) (kind .number) && (settingsFit (kind .width) (head .settings) && (leb (head .counts .entries) (head .settings .capacity) && leb (head .counts .blocks) (head .counts .entries)))))
+headRight kind bytes = isChapter bytes && (eqb (getD bytes 5 0) (kind .number) && headSound (kind .width) (headFields bytes))
 
 abbrev pub readHead : Kind → List ℕ → Option Head
 readHead kind bytes = cond (headRight kind bytes) (Some (headFields bytes)) None
@@ -65,15 +69,15 @@ abbrev pub activeAt : List ℕ → ℕ → Bool
 activeAt bytes i = eqb (mask bytes / 2 ^ i % 2) 1
 
 -- what the eight bytes of a section record say
-pub record SectionFields : Type 0 where
-  pub number : ℕ
-  pub weight : ℕ
-  pub measure : ℕ
-
 abbrev pub sectionFields : List ℕ → SectionFields
 sectionFields bytes = record { number = field 0 2 bytes; weight = field 2 2 bytes; measure = field 4 4 bytes }
 
-module _ (kind : Kind) (alpha : ℕ) where
+-- section numbers of block b lead onward, to a block of the tree, or nowhere; a chapter has no more measure than 2,000 entries
+-- of 1,000 each
+abbrev pub sectionSound : (u b : ℕ) → SectionFields → Bool
+sectionSound u b s = (eqb (s .number) 0 || (ltb b (s .number) && leb (s .number) u)) && leb (s .measure) 2000000
+
+module _ (kind : Kind) where
   -- the message in slot i
   abbrev pub slot : List ℕ → ℕ → List ℕ
   slot bytes i = part (8 + i * kind .width) (kind .width) bytes
@@ -82,6 +86,19 @@ module _ (kind : Kind) (alpha : ℕ) where
   abbrev pub slots : List ℕ → List (List ℕ)
   slots bytes = map (slot bytes) (counting 0 (entryCount bytes))
 
+  -- each key is below the next, the first of them after the key of `last`
+  abbrev pub keysRiseFrom : (last : List ℕ) → List (List ℕ) → Bool
+  keysRiseFrom last [] = true
+  keysRiseFrom last (m ∷ ms) = isLt (kind .keyOrder (keyOf kind last) (keyOf kind m)) && keysRiseFrom m ms
+
+  abbrev pub keysRise : List (List ℕ) → Bool
+  keysRise [] = true
+  keysRise (m ∷ ms) = keysRiseFrom m ms
+
+  abbrev pub messageValid : List ℕ → Bool
+  messageValid m = not (isSome (kind .invalid m))
+
+module _ (kind : Kind) (alpha : ℕ) where
   -- the record of section i
   abbrev pub sectionAt : List ℕ → ℕ → SectionFields
   sectionAt bytes i = sectionFields (part (8 + alpha * kind .width + i * 8) 8 bytes)
@@ -90,19 +107,12 @@ module _ (kind : Kind) (alpha : ℕ) where
   abbrev pub sectionsOf : List ℕ → List SectionFields
   sectionsOf bytes = map (sectionAt bytes) (counting 0 (sectionCount bytes))
 
-  -- the keys strictly rise
-  abbrev pub keysRise : List (List ℕ) → Bool
-  keysRise [] = true
-  keysRise (m ∷ []) = true
-  keysRise (m ∷ l ∷ ms) = isLt (kind .keyOrder (keyOf kind m) (keyOf kind l)) && keysRise (l ∷ ms)
-
-  -- section numbers of block b lead onward, to a block of the tree, or nowhere; a chapter has no more measure than 2,000 entries
-  -- of 1,000 each
-  abbrev pub sectionSound : (u b : ℕ) → SectionFields → Bool
-  sectionSound u b s = (eqb (s .number) 0 || (ltb b (s .number) && leb (s .number) u)) && leb (s .measure) 2000000
+  -- from 1 to alpha entries, of the right kind
+  abbrev pub ofKind : List ℕ → Bool
+  ofKind bytes = leb 1 (entryCount bytes) && (leb (entryCount bytes) alpha && eqb (getD bytes 1 0) (kind .number))
 
   -- block b of a tree of u blocks is well formed: from 1 to alpha entries, the right kind, valid messages with strictly rising
   -- keys, no mask bit past the entries, and sound sections
   abbrev pub wellFormed : (u b : ℕ) → List ℕ → Bool
   wellFormed u b bytes =
-      leb 1 (entryCount bytes) && (leb (entryCount bytes) alpha && (eqb (getD bytes 1 0) (kind .number) && (every (λ m. not (isSome (kind .invalid m))) (slots bytes) && (keysRise (slots bytes) && (ltb (mask bytes) (2 ^ entryCount bytes) && every (sectionSound u b) (sectionsOf bytes))))))
+      ofKind bytes && (every (messageValid kind) (slots kind bytes) && (keysRise kind (slots kind bytes) && (ltb (mask bytes) (2 ^ entryCount bytes) && every (sectionSound u b) (sectionsOf bytes))))

@@ -4,12 +4,7 @@ use Prim.Native.Nat.{ℕ, _+_, _*_}
 use lib.Dec.{leb}
 use Rattle.std.specs.declared.option.Option.{Option}
 use Rattle.std.specs.declared.option.Option.the-variants.{None, Some}
-
--- how many entries a block can hold, the parameter of the fan-out, and how many entries the chapter can hold
-pub record Settings : Type 0 where
-  pub alpha : ℕ
-  pub rho : ℕ
-  pub capacity : ℕ
+use Rattle.image.specs.declared.settings.Settings.{Settings}
 
 -- from 1 to 16, and so that eight bytes, the slots for messages of the width, and one more section record than slots fit
 -- into a block

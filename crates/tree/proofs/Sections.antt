@@ -22,7 +22,7 @@ rounded-up-le m zero h = absurd (omega arith)
 rounded-up-le m (suc r) h =
     let below : (m + (suc r - 1)) / suc r < suc m = div-lt-iff-lt-mul h .1 (omega arith) in omega arith
 
-fanOut-le : (alpha rho n : ℕ) → 1 ≤ rho → fanOut alpha rho n - 1 ≤ n
+pub fanOut-le : (alpha rho n : ℕ) → 1 ≤ rho → fanOut alpha rho n - 1 ≤ n
 fanOut-le alpha rho n h = omega (arith, rounded-up-le (n - alpha) rho h)
 
 module _ {X : Type 0} (before : X → X → Bool) (alpha rho : ℕ) where
