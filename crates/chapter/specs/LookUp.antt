@@ -40,15 +40,15 @@ walk kind head key blocks (suc steps) b reads =
     foundOr (inBlock kind key bytes) (reads + 1) next onward
 
 -- block 0 is read, and then the path from block 1 on; a tree of no blocks has no entry
-abbrev pub search : Kind → List ℕ → List (List ℕ) → Answer Found
-search kind key blocks = andThen (headOf kind blocks) (λ head. walk kind head key blocks (head .counts .blocks) 1 1)
+abbrev pub seek : Kind → List ℕ → List (List ℕ) → Answer Found
+seek kind key blocks = andThen (headOf kind blocks) (λ head. walk kind head key blocks (head .counts .blocks) 1 1)
 
 -- the key's length is tested first, then the buffer's (23)
 abbrev pub lookUpAnswer : Kind → List ℕ → (buffer : ℕ) → List (List ℕ) → Answer Found
 lookUpAnswer kind key buffer blocks =
     need (eqb (length key) (kind .keyWidth)) (23, length key)
     (need (eqb buffer (kind .width)) (23, buffer)
-    (search kind key blocks))
+    (seek kind key blocks))
 
 abbrev pub messageOr : List ℕ → Answer Found → List ℕ
 messageOr buffer (Err e) = buffer

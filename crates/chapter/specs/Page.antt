@@ -11,7 +11,7 @@ use Rattle.kinds.specs.Kind.{Kind}
 use Rattle.image.specs.Walk.{measureBefore, nextBlock}
 use Rattle.image.specs.declared.head.Head.{Head}
 use Rattle.chapter.specs.Answers.{Answer, andThen, need, headOf}
-use Rattle.chapter.specs.LookUp.{Found, treeBlockAt, search}
+use Rattle.chapter.specs.LookUp.{Found, treeBlockAt, seek}
 
 -- summed along the path from block b to its end, past the key's own block
 abbrev pub linesBefore : Kind → Head → List ℕ → List (List ℕ) → (steps b lines : ℕ) → Answer ℕ
@@ -38,6 +38,6 @@ abbrev pub pageAnswer : Kind → List ℕ → (perPage : ℕ) → List (List ℕ
 pageAnswer kind key perPage blocks =
     need (eqb (length key) (kind .keyWidth)) (23, length key)
     (need (ltb 0 perPage) (29, 0)
-    (andThen (search kind key blocks) λ found.
+    (andThen (seek kind key blocks) λ found.
     andThen (headOf kind blocks) λ head.
     pageFor kind (found .message) (andThen (linesBefore kind head key blocks (head .counts .blocks) 1 0) (λ lines. Ok (pageOf perPage lines)))))
