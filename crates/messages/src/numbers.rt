@@ -3,7 +3,7 @@ ghost use mathlib.Core.Path.{_≡_};
 ghost use Rattle.fields.specs.Numbers.{le};
 
 // The four bytes of a number, the lowest first.
-pub fn le_bytes(n: u32) -> [u8; 4]
+pub(crate) fn le_bytes(n: u32) -> [u8; 4]
     ensures { λ r. ⌜ r ≡ le 4 n ⌝ }
 {
     n.to_le_bytes()

@@ -3,7 +3,12 @@ use std::alloc::AllocError;
 use std::alloc::Global;
 
 // The digits of a number in a base, as many as asked for.
-pub fn digits(heap: Global, mut code: u32, base: u32, n: usize) -> Result<Vec<u16>, AllocError> {
+pub(crate) fn digits(
+    heap: Global,
+    mut code: u32,
+    base: u32,
+    n: usize,
+) -> Result<Vec<u16>, AllocError> {
     let mut list = Vec::new(heap);
     for _ in 0..n {
         list.push((code.checked_rem(base).unwrap_or(0) % 65_536) as u16)?;
@@ -13,7 +18,12 @@ pub fn digits(heap: Global, mut code: u32, base: u32, n: usize) -> Result<Vec<u1
 }
 
 // A generated list of n priorities below a limit; small limits make many ties.
-pub fn generated(heap: Global, seed: u32, n: usize, limit: u32) -> Result<Vec<u16>, AllocError> {
+pub(crate) fn generated(
+    heap: Global,
+    seed: u32,
+    n: usize,
+    limit: u32,
+) -> Result<Vec<u16>, AllocError> {
     let mut list = Vec::new(heap);
     let mut state = seed;
     for _ in 0..n {

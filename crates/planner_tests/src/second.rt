@@ -18,7 +18,7 @@ pub struct Subtree {
 }
 
 // The ranks in the order in which they are drawn.
-pub fn draw(heap: Global, priorities: &[u16]) -> Result<Vec<usize>, AllocError> {
+pub(crate) fn draw(heap: Global, priorities: &[u16]) -> Result<Vec<usize>, AllocError> {
     let mut all = Vec::new(heap);
     for (rank, priority) in priorities.iter().enumerate() {
         all.push(Drawn {
@@ -93,7 +93,7 @@ fn block(
 }
 
 // The subtree of some ranks, as they are drawn, below a parent and with a number. Its depth is at most their number.
-pub fn plan(
+pub(crate) fn plan(
     heap: Global,
     depth: usize,
     drawn: &[usize],

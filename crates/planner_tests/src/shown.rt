@@ -29,7 +29,11 @@ fn block_text(heap: Global, row: &Row) -> Result<String, AllocError> {
 }
 
 // The blocks of a plan, or that it was refused.
-pub fn plan_text(heap: Global, table: &[Row], blocks: Option<usize>) -> Result<String, AllocError> {
+pub(crate) fn plan_text(
+    heap: Global,
+    table: &[Row],
+    blocks: Option<usize>,
+) -> Result<String, AllocError> {
     let mut text = String::new(heap);
     match blocks {
         Some(count) => {

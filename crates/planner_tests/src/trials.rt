@@ -43,7 +43,7 @@ fn words_of(heap: Global, table: &[Row], blocks: usize) -> Result<Vec<usize>, Al
 }
 
 impl Trials {
-    pub fn new() -> Trials {
+    pub(crate) fn new() -> Trials {
         Trials {
             tried: 0,
             unlike: 0,
@@ -78,7 +78,7 @@ impl Trials {
     }
 
     // All lists of n priorities below n, for n up to 6: all permutations, and all ties.
-    pub fn all_short_lists(
+    pub(crate) fn all_short_lists(
         &mut self,
         heap: Global,
         work: &mut [u16],
@@ -97,7 +97,7 @@ impl Trials {
     }
 
     // Generated lists, with few ties and with many, under many settings.
-    pub fn generated_lists(
+    pub(crate) fn generated_lists(
         &mut self,
         heap: Global,
         work: &mut [u16],
