@@ -1,4 +1,6 @@
 // Chapters: what their calls are is defined in specs/; the refusals and answers are here, with the worked examples.
+#![tactic(auto)]
+
 mod answer;
 mod fault;
 

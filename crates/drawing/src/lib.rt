@@ -1,5 +1,7 @@
 // The order in which the entries of a chapter are drawn: the substitution table of FIPS 197, the chain that it makes of a
 // key, and the priority of a key.
+#![tactic(auto)]
+
 ghost use Rattle.std.specs.Prelude.{◌≡◌, bit_xor};
 ghost use Rattle.drawing.specs.Drawing.{chain as chained, drawn_before, priority as prioritized, substitute as substituted};
 ghost use Rattle.drawing.specs.Field.{Standard};

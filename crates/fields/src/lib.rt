@@ -1,4 +1,6 @@
 // Fields of several bytes, the lowest byte first, read from any bytes and written; and the lemmas on them that every layer shares.
+#![tactic(auto)]
+
 ghost use Rattle.std.specs.Prelude.{◌≡◌, ◌+◌, ◌*◌, slice_index};
 ghost use Rattle.fields.specs.Numbers.{le, number, part};
 

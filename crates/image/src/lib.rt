@@ -1,4 +1,6 @@
 // The image of a chapter: its definitions are in specs/, and the function here bears their laws.
+#![tactic(auto)]
+
 mod block;
 mod head;
 mod section;

@@ -1,4 +1,6 @@
 // Laws of sets of messages and of their images: the functions here bear them, and do nothing.
+#![tactic(auto)]
+
 ghost use Rattle.image_laws.specs.Arriving.{OrderDoesNotMatter, SetFromItsMessages};
 ghost use Rattle.image_laws.specs.Formed.{BlocksAreWellFormed};
 ghost use Rattle.image_laws.specs.Walking.{WalksFollowTheTree};

@@ -1,3 +1,5 @@
 // Tests of heads and tree blocks read from bytes.
+#![tactic(auto)]
+
 #[cfg(test)]
 mod tests;

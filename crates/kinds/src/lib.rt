@@ -1,4 +1,6 @@
 // Entry kinds: what a message is, which are valid, how keys and ranks compare. Paragraphs and index marks.
+#![tactic(auto)]
+
 mod drawn;
 mod kind;
 mod mark_kind;

@@ -1,4 +1,6 @@
 // The layout of messages in fields: reading them, comparing messages by them, and finding the first that is invalid.
+#![tactic(auto)]
+
 ghost use Rattle.std.specs.Prelude.{◌≡◌};
 ghost use Rattle.std.specs.Cmp.{rank as compared};
 ghost use Rattle.layout.specs.Layout.{by_fields, first_invalid, lowered, value as valued};

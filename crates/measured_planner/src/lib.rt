@@ -1,4 +1,6 @@
 // The planner: from the drawing priorities of some entries in key order, the blocks of their tree.
+#![tactic(auto)]
+
 ghost use Rattle.std.specs.Prelude.{◌≡◌, true, length};
 ghost use Rattle.measured_planner.specs.Plan.{plannable, plan_answer, plan_rows, plan_work, MaskTellsSections, PlanIsTree};
 

@@ -1,5 +1,7 @@
 // Tries the planner. For each line of the input (α, ρ and priorities in key order) it prints the blocks of the plan; then how many
 // lists it planned as a second planner does, and how often a rank is visited in planning the longest lists.
+#![tactic(auto)]
+
 mod lists;
 mod second;
 mod shown;

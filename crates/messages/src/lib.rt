@@ -1,4 +1,6 @@
 // Messages as typed values: a paragraph and an index mark, each with its bytes.
+#![tactic(auto)]
+
 mod mark_message;
 mod numbers;
 mod paragraph_message;

@@ -1,4 +1,6 @@
 // Parcels: a list of messages and notes for one chapter, read whole or refused, without a copy.
+#![tactic(auto)]
+
 mod count;
 mod fault;
 mod header;

@@ -1,4 +1,6 @@
 // The planner: from the drawing priorities of some entries in key order, the blocks of their tree.
+#![tactic(auto)]
+
 ghost use Rattle.std.specs.Prelude.{◌≡◌, true, map, length, replicate, if◌then◌else◌, Some, None};
 ghost use Rattle.planner.specs.Plan.{plannable, rank_tree, overwritten, MaskTellsSections, PlanIsTree};
 ghost use Rattle.planner.specs.Rows.{row_of};

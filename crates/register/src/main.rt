@@ -1,4 +1,6 @@
 // Reads a parcel of paragraphs from standard input, and prints how many messages and notes it has, or why it is refused.
+#![tactic(auto)]
+
 use std::io::Read;
 use summary::summarize;
 

@@ -1,4 +1,6 @@
 // Blocks of an image, written into a buffer: the head, and a tree block from a row of a plan.
+#![tactic(auto)]
+
 ghost use Rattle.rendering.specs.Laws.{PlansRenderImages};
 
 mod append;

@@ -1,5 +1,7 @@
 // Writes images. Each line of the input has kind, chapter number, α, ρ and capacity, and messages in key order; the output has the
 // head and the tree blocks, with the zeros at their ends left out.
+#![tactic(auto)]
+
 mod hex;
 mod images;
 

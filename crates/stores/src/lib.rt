@@ -1,4 +1,6 @@
 // Block stores: what a store of 256-byte blocks means, and three of them that build any other.
+#![tactic(auto)]
+
 mod faults;
 mod memories;
 mod pairs;

@@ -1,4 +1,6 @@
 // The work of the program: what it prints for an input.
+#![tactic(auto)]
+
 ghost use Rattle.std.specs.Prelude.{◌≡◌, IfOk, string_bytes};
 ghost use Rattle.summary.specs.Line.{line_of};
 

@@ -1,4 +1,6 @@
 // The block search tree: its definition is in specs/Tree.antt, and the functions here bear its laws.
+#![tactic(auto)]
+
 ghost use Rattle.tree.specs.Laws.{TreeIsLawful, TreeFollowsMap};
 
 // For elements of any type: what is true of every tree over them.
