@@ -4,4 +4,4 @@ use Rattle.fields.proofs.piece_at.Goals as goal
 
 pub returns : goal.returns
 returns c =
-    c.slice-at.ensures ∙ part-far c.args.bytes.now c.saturating-add.result (c.args.start + c.args.i * c.args.width) c.args.width (omega arith)
+    c.slice_at.ensures ∙ part-far c.args.bytes.now c.saturating_add.result (c.args.start + c.args.i * c.args.width) c.args.width (omega arith)
