@@ -21,8 +21,8 @@ returns-then-separates c =
       measure = c.loop-i.invariant.1.is;
     }
 
-pub overflow-add-measure : goal.overflow-add-measure
-overflow-add-measure c = omega (arith, c.loop-i.invariant.1.small)
+pub overflow_add-measure : goal.overflow_add-measure
+overflow_add-measure c = omega (arith, c.loop-i.invariant.1.small)
 
 pub loop-i-preserved : goal.loop-i-preserved
 loop-i-preserved c =

@@ -46,8 +46,8 @@ plan-block-plan-sections-beneath-requires t c =
     let falls : 3 * left_by ps b xs + length (cut_by ps b xs) < t = omega arith in
     (falls, (c.requires.settings, (c.requires.apart, (omega arith, (omega arith, (omega arith, (omega arith, (rw c.begin-row-row.ensures (omega arith), rw c.begin-row-row.ensures (omega arith)))))))))
 
-pub plan-block-overflow-add-result : goal.plan-block-overflow-add-result
-plan-block-overflow-add-result t c =
+pub plan-block-overflow_add-result : goal.plan-block-overflow_add-result
+plan-block-overflow_add-result t c =
     let ps = c.args.priorities.now in
     let alpha = c.args.settings.alpha in
     let rho = c.args.settings.rho in
@@ -58,8 +58,8 @@ plan-block-overflow-add-result t c =
     let beneath = c.plan-sections-beneath.ensures.count in
     omega arith
 
-pub plan-block-overflow-add-result-2 : goal.plan-block-overflow-add-result-2
-plan-block-overflow-add-result-2 t c =
+pub plan-block-overflow_add-result-2 : goal.plan-block-overflow_add-result-2
+plan-block-overflow_add-result-2 t c =
     let ps = c.args.priorities.now in
     let alpha = c.args.settings.alpha in
     let rho = c.args.settings.rho in
@@ -117,8 +117,8 @@ plan-sections-section-requires t c =
     let left = left-first c.args.priorities.now c.args.place.bounds c.args.ranks.now _ part.0 part.1 in
     omega arith
 
-pub plan-sections-offset-bounds-row-place : goal.plan-sections-offset-bounds-row-place
-plan-sections-offset-bounds-row-place t c = omega (arith, some-part c.args.priorities.now c.args.place.bounds c.args.ranks.now)
+pub plan-sections-offset_bounds-row-place : goal.plan-sections-offset_bounds-row-place
+plan-sections-offset_bounds-row-place t c = omega (arith, some-part c.args.priorities.now c.args.place.bounds c.args.ranks.now)
 
 pub plan-sections-bounds-row-place : goal.plan-sections-bounds-row-place
 plan-sections-bounds-row-place t c = omega (arith, some-part c.args.priorities.now c.args.place.bounds c.args.ranks.now)
@@ -142,8 +142,8 @@ plan-sections-returns-then-place-separators t c =
       visits = omega (arith, c.plan-block-first.ensures.visits, visits-on below (λ j. refl) k s [] blocks c.plan-block-first.ensures.count (cut_by ps b xs) split, last_end ps b xs gathered.new.ranks gathered.result.length gathered.result.end gathered.ensures.first (omega arith));
     }
 
-pub plan-sections-overflow-add-visits : goal.plan-sections-overflow-add-visits
-plan-sections-overflow-add-visits t c =
+pub plan-sections-overflow_add-visits : goal.plan-sections-overflow_add-visits
+plan-sections-overflow_add-visits t c =
     let ps = c.args.priorities.now in
     let b = c.args.place.bounds in
     let xs = c.args.ranks.now in
@@ -158,8 +158,8 @@ plan-sections-overflow-add-visits t c =
     let first = c.plan-block-first.ensures.visits in
     omega arith
 
-pub plan-sections-overflow-add-further-2 : goal.plan-sections-overflow-add-further-2
-plan-sections-overflow-add-further-2 t c =
+pub plan-sections-overflow_add-further-2 : goal.plan-sections-overflow_add-further-2
+plan-sections-overflow_add-further-2 t c =
     let ps = c.args.priorities.now in
     let b = c.args.place.bounds in
     let xs = c.args.ranks.now in
@@ -188,8 +188,8 @@ plan-sections-plan-sections-others-requires t c =
     let falls : 3 * left_by ps b rest + length (cut_by ps b rest) < t = omega arith in
     (falls, (c.requires.settings, (subst Distinct (sym kept) (distinct-drop gathered.result.end xs c.requires.apart), (omega (arith, ap length kept, length-drop gathered.result.end xs), (omega arith, (omega arith, (omega arith, (omega arith, c.requires.places))))))))
 
-pub plan-sections-overflow-add-result : goal.plan-sections-overflow-add-result
-plan-sections-overflow-add-result t c =
+pub plan-sections-overflow_add-result : goal.plan-sections-overflow_add-result
+plan-sections-overflow_add-result t c =
     let ps = c.args.priorities.now in
     let b = c.args.place.bounds in
     let xs = c.args.ranks.now in
@@ -205,8 +205,8 @@ plan-sections-overflow-add-result t c =
     let count = c.plan-sections-others.ensures.count in
     omega arith
 
-pub plan-sections-overflow-add-result-2 : goal.plan-sections-overflow-add-result-2
-plan-sections-overflow-add-result-2 t c =
+pub plan-sections-overflow_add-result-2 : goal.plan-sections-overflow_add-result-2
+plan-sections-overflow_add-result-2 t c =
     let ps = c.args.priorities.now in
     let b = c.args.place.bounds in
     let xs = c.args.ranks.now in

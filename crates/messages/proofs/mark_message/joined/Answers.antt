@@ -3,8 +3,8 @@ use Rattle.std.proofs.lemmas.List.{length-append}
 use Rattle.messages.proofs.Parts.{put_last}
 use Rattle.messages.proofs.mark_message.joined.Goals as goal
 
-pub slice-bounds-message-end-2 : goal.slice-bounds-message-end-2
-slice-bounds-message-end-2 c =
+pub slice_bounds-message-end-2 : goal.slice_bounds-message-end-2
+slice_bounds-message-end-2 c =
     let wide = length-append c.copy-from-slice.new.self (replicate 12 0) in
     search (rules, wide)
 

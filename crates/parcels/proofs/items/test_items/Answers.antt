@@ -3,8 +3,8 @@ use native.Mathlib.Nat.{sub-zero}
 use Rattle.parcels.proofs.Opening.{length-after, refused-after, refused-item, refused-surplus, refused_none}
 use Rattle.parcels.proofs.items.test_items.Goals as goal
 
-pub returns-in-default : goal.returns-in-default
-returns-in-default c = refused-item c.loop.invariant.1 (c.args.count - (c.loop.counter + 1)) (omega arith) (sym c.in-default.ensures)
+pub returns-in_default : goal.returns-in_default
+returns-in_default c = refused-item c.loop.invariant.1 (c.args.count - (c.loop.counter + 1)) (omega arith) (sym c.in_default.ensures)
 
 pub loop-preserved : goal.loop-preserved
 loop-preserved c =

@@ -11,20 +11,20 @@ use Rattle.planner.proofs.entries.begin_row.Goals.{then-holds, then-separates, e
 room : (p : ℕ → Bool) (xs : List ℕ) (i count : ℕ) → i < length xs → true ≡ p (get_or xs i 0) → count ≡ length (filter p (take i xs)) → length (filter p xs) ≤ 16 → count < 16
 room p xs i count within holds counted few = omega (arith, place-left p xs i within (sym holds))
 
-pub offset-bounds-entries-count : goal.offset-bounds-entries-count
-offset-bounds-entries-count c = omega (arith, room _ _ _ _ c.loop-rank-test.true c.if-holds.ensures c.loop-rank.invariant.counted c.requires.fits)
+pub offset_bounds-entries-count : goal.offset_bounds-entries-count
+offset_bounds-entries-count c = omega (arith, room _ _ _ _ c.loop-rank-test.true c.if-holds.ensures c.loop-rank.invariant.counted c.requires.fits)
 
 pub bounds-entries-count : goal.bounds-entries-count
 bounds-entries-count c = room _ _ _ _ c.loop-rank-test.true c.if-holds.ensures c.loop-rank.invariant.counted c.requires.fits
 
-pub overflow-cast-mask : goal.overflow-cast-mask
-overflow-cast-mask c = omega (arith, room _ _ _ _ c.loop-rank-test.true c.if-holds.ensures c.loop-rank.invariant.counted c.requires.fits)
+pub overflow_cast-mask : goal.overflow_cast-mask
+overflow_cast-mask c = omega (arith, room _ _ _ _ c.loop-rank-test.true c.if-holds.ensures c.loop-rank.invariant.counted c.requires.fits)
 
-pub overflow-shl-mask : goal.overflow-shl-mask
-overflow-shl-mask c = room _ _ _ _ c.loop-rank-test.true c.if-holds.ensures c.loop-rank.invariant.counted c.requires.fits
+pub overflow_shl-mask : goal.overflow_shl-mask
+overflow_shl-mask c = room _ _ _ _ c.loop-rank-test.true c.if-holds.ensures c.loop-rank.invariant.counted c.requires.fits
 
-pub overflow-add-count : goal.overflow-add-count
-overflow-add-count c = omega (arith, room _ _ _ _ c.loop-rank-test.true c.if-holds.ensures c.loop-rank.invariant.counted c.requires.fits)
+pub overflow_add-count : goal.overflow_add-count
+overflow_add-count c = omega (arith, room _ _ _ _ c.loop-rank-test.true c.if-holds.ensures c.loop-rank.invariant.counted c.requires.fits)
 
 pub loop-rank-preserved : goal.loop-rank-preserved
 loop-rank-preserved c =
@@ -47,8 +47,8 @@ loop-rank-preserved c =
     ]
     )
 
-pub overflow-cast-result : goal.overflow-cast-result
-overflow-cast-result c =
+pub overflow_cast-result : goal.overflow_cast-result
+overflow_cast-result c =
     let all = rw (take_all c.loop-rank.rank-index c.args.ranks.now c.loop-rank-test.false) at c.loop-rank.invariant.counted in
     omega (arith, all)
 

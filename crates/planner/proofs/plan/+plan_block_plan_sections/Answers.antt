@@ -41,8 +41,8 @@ plan-block-plan-sections-beneath-requires t c =
     let falls : 3 * left_by ps b xs + length (cut_by ps b xs) < t = omega arith in
     (falls, (c.requires.settings, (c.requires.apart, (omega arith, (omega arith, (omega arith, (rw c.begin-row-row.ensures (omega arith), rw c.begin-row-row.ensures (omega arith))))))))
 
-pub plan-block-overflow-add-result : goal.plan-block-overflow-add-result
-plan-block-overflow-add-result t c =
+pub plan-block-overflow_add-result : goal.plan-block-overflow_add-result
+plan-block-overflow_add-result t c =
     let ps = c.args.priorities.now in
     let alpha = c.args.settings.alpha in
     let rho = c.args.settings.rho in
@@ -90,16 +90,16 @@ plan-sections-plan-block-count-requires t c =
     let falls : 3 * length (take (gathered.result.length - 0) gathered.new.ranks) < t = omega arith in
     (falls, (c.requires.settings, (apart-first ps b xs _ part.0 part.1 c.requires.apart, (c.requires.first, (omega arith, omega arith)))))
 
-pub plan-sections-overflow-cast-row : goal.plan-sections-overflow-cast-row
-plan-sections-overflow-cast-row t c =
+pub plan-sections-overflow_cast-row : goal.plan-sections-overflow_cast-row
+plan-sections-overflow_cast-row t c =
     let gathered = c.gather-section-gathered in
     let part = first_part c.args.priorities.now c.args.bounds c.args.ranks.now gathered.new.ranks gathered.result.length gathered.result.end gathered.ensures in
     let long = length-first c.args.priorities.now c.args.bounds c.args.ranks.now gathered.new.ranks gathered.result.length gathered.result.end gathered.ensures gathered.auto.ranks in
     let left = left-first c.args.priorities.now c.args.bounds c.args.ranks.now _ part.0 part.1 in
     omega arith
 
-pub plan-sections-offset-bounds-row-place : goal.plan-sections-offset-bounds-row-place
-plan-sections-offset-bounds-row-place t c = omega (arith, some-part c.args.priorities.now c.args.bounds c.args.ranks.now)
+pub plan-sections-offset_bounds-row-place : goal.plan-sections-offset_bounds-row-place
+plan-sections-offset_bounds-row-place t c = omega (arith, some-part c.args.priorities.now c.args.bounds c.args.ranks.now)
 
 pub plan-sections-bounds-row-place : goal.plan-sections-bounds-row-place
 plan-sections-bounds-row-place t c = omega (arith, some-part c.args.priorities.now c.args.bounds c.args.ranks.now)
@@ -126,8 +126,8 @@ plan-sections-returns-then-place-separators t c =
       count = omega (arith, count-on below (λ j. refl) k s [] blocks c.plan-block-count.ensures.count (cut_by ps b xs) split);
     }
 
-pub plan-sections-overflow-add-further-2 : goal.plan-sections-overflow-add-further-2
-plan-sections-overflow-add-further-2 t c =
+pub plan-sections-overflow_add-further-2 : goal.plan-sections-overflow_add-further-2
+plan-sections-overflow_add-further-2 t c =
     let ps = c.args.priorities.now in
     let b = c.args.bounds in
     let xs = c.args.ranks.now in
@@ -156,8 +156,8 @@ plan-sections-plan-sections-requires t c =
     let falls : 3 * left_by ps b rest + length (cut_by ps b rest) < t = omega arith in
     (falls, (c.requires.settings, (subst Distinct (sym kept) (distinct-drop gathered.result.end xs c.requires.apart), (omega arith, (omega arith, (omega arith, (omega arith, c.requires.places)))))))
 
-pub plan-sections-overflow-add-result : goal.plan-sections-overflow-add-result
-plan-sections-overflow-add-result t c =
+pub plan-sections-overflow_add-result : goal.plan-sections-overflow_add-result
+plan-sections-overflow_add-result t c =
     let ps = c.args.priorities.now in
     let b = c.args.bounds in
     let xs = c.args.ranks.now in

@@ -24,8 +24,8 @@ write-slots-requires g c =
       present = ap (every (in_table kind c.args.table.now)) c.ranks-of.ensures.ranks ∙ fits.present;
     }
 
-pub overflow-add-slots : goal.overflow-add-slots
-overflow-add-slots g c =
+pub overflow_add-slots : goal.overflow_add-slots
+overflow_add-slots g c =
     let fits = renderable-is g.K.EntryKind.kind c.args.alpha c.args.table.now c.args.row.now (sym c.if-not-can-render.ensures) in
     let front = ap length c.front-bytes.ensures in
     let width : c.args.alpha * c.message-width.result ≡ c.args.alpha * g.K.EntryKind.kind.width = ap (λ w. c.args.alpha * w) c.message-width.ensures in

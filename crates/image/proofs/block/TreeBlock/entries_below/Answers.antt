@@ -5,8 +5,8 @@ use Rattle.image.proofs.block.TreeBlock.entries_below.Goals as goal
 pub loop-i-init : goal.loop-i-init
 loop-i-init g c = record { few = omega arith; is = omega arith }
 
-pub overflow-add-sum : goal.overflow-add-sum
-overflow-add-sum g c = omega (arith, c.loop-i.invariant.few, c.entries-i-end.ensures.few)
+pub overflow_add-sum : goal.overflow_add-sum
+overflow_add-sum g c = omega (arith, c.loop-i.invariant.few, c.entries-i-end.ensures.few)
 
 pub loop-i-preserved : goal.loop-i-preserved
 loop-i-preserved g c =

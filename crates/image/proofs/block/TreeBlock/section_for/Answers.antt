@@ -5,8 +5,8 @@ use Rattle.image.proofs.block.TreeBlock.section_for.Goals as goal
 pub loop-i-init : goal.loop-i-init
 loop-i-init g c = record { few = omega arith; is = omega arith }
 
-pub overflow-add-below : goal.overflow-add-below
-overflow-add-below g c = omega (arith, c.from-below.ensures, (flag_is c.separates.result).1)
+pub overflow_add-below : goal.overflow_add-below
+overflow_add-below g c = omega (arith, c.from-below.ensures, (flag_is c.separates.result).1)
 
 pub loop-i-preserved : goal.loop-i-preserved
 loop-i-preserved g c =

@@ -19,8 +19,8 @@ loop-i-init g c =
       is = zero-add _ ∙ ap (sum_by (λ s. s.measure)) (sym (take-map-range_with_len f 0 n few (omega arith)) ∙ take-cut sections c.args.end few n (length-map-range_with_len f 0 n) refl);
     }
 
-pub overflow-add-sum : goal.overflow-add-sum
-overflow-add-sum g c = omega (arith, c.loop-i.invariant.few, c.section-count.ensures.few)
+pub overflow_add-sum : goal.overflow_add-sum
+overflow_add-sum g c = omega (arith, c.loop-i.invariant.few, c.section-count.ensures.few)
 
 pub loop-i-preserved : goal.loop-i-preserved
 loop-i-preserved g c =

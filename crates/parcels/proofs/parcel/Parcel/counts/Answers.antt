@@ -4,13 +4,13 @@ use Rattle.parcels.proofs.Counting.{counted_none, counted-fits, message-counted,
 use Rattle.parcels.proofs.parcel.Parcel.counts.Goals as goal
 
 pub loop-item-init : goal.loop-item-init
-loop-item-init c = (tt, tt, counted_none _ _ c.items-item-items.ensures.few (ap to_come c.into-iter-item-iterator.ensures.into-iter-gives ∙ c.items-item-items.ensures.items))
+loop-item-init c = (tt, tt, counted_none _ _ c.items-item-items.ensures.few (ap to_come c.into_iter-item-iterator.ensures.into_iter-gives ∙ c.items-item-items.ensures.items))
 
-pub overflow-add-messages : goal.overflow-add-messages
-overflow-add-messages c = record { fits = (counted-fits (message-counted c.loop-item.invariant.2 (rw c.in-Message.is at c.in-Some.ensures.steps))).0 }
+pub overflow_add-messages : goal.overflow_add-messages
+overflow_add-messages c = record { fits = (counted-fits (message-counted c.loop-item.invariant.2 (rw c.in-Message.is at c.in-Some.ensures.steps))).0 }
 
-pub overflow-add-notes : goal.overflow-add-notes
-overflow-add-notes c = record { fits = (counted-fits (note-counted c.loop-item.invariant.2 (rw c.in-Note.is at c.in-Some.ensures.steps))).1 }
+pub overflow_add-notes : goal.overflow_add-notes
+overflow_add-notes c = record { fits = (counted-fits (note-counted c.loop-item.invariant.2 (rw c.in-Note.is at c.in-Some.ensures.steps))).1 }
 
 pub loop-item-preserved : goal.loop-item-preserved
 loop-item-preserved c = (tt, tt, note-counted c.loop-item.invariant.2 (rw c.in-Note.is at c.in-Some.ensures.steps))

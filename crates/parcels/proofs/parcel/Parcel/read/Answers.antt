@@ -5,19 +5,19 @@ use Rattle.parcels.proofs.Walking.{header_refused, parcel-refused, parcel-accept
 use Rattle.parcels.proofs.Written.{accepts-written}
 use Rattle.parcels.proofs.parcel.Parcel.read.Goals as goal
 
-pub returns-in-err-test-items : goal.returns-in-err-test-items
-returns-in-err-test-items c =
-    let exit = err_from_is_err_and c.from-residual-in-err-test-items.result c.from-residual-in-err-test-items.ensures.1 in
-    let answer = parcel-refused _ _ c.args.bytes.now _ c.in-ok-test-header.ensures c.u16-at-count.ensures _ c.in-err-test-items.ensures in
+pub returns-in_err-test-items : goal.returns-in_err-test-items
+returns-in_err-test-items c =
+    let exit = err_from_is_err_and c.from-residual-in_err-test-items.result c.from-residual-in_err-test-items.ensures.1 in
+    let answer = parcel-refused _ _ c.args.bytes.now _ c.in_ok-test-header.ensures c.u16-at-count.ensures _ c.in_err-test-items.ensures in
     rw (exit.1, exit.2) (record { answer = answer; written = accepts-written _ _ _ _ (All-from_get_or _ _ 0 (λ i lt. (c.type-inv.bytes i).fits)) answer })
 
 pub returns : goal.returns
 returns c =
-    let answer = parcel-accepted _ _ c.args.bytes.now _ c.in-ok-test-header.ensures c.u16-at-count.ensures _ c.u32-at-chapter.ensures c.in-ok-test-items.ensures in
+    let answer = parcel-accepted _ _ c.args.bytes.now _ c.in_ok-test-header.ensures c.u16-at-count.ensures _ c.u32-at-chapter.ensures c.in_ok-test-items.ensures in
     record { answer = answer; written = accepts-written _ _ _ _ (All-from_get_or _ _ 0 (λ i lt. (c.type-inv.bytes i).fits)) answer }
 
-pub returns-in-err-test-header : goal.returns-in-err-test-header
-returns-in-err-test-header c =
+pub returns-in_err-test-header : goal.returns-in_err-test-header
+returns-in_err-test-header c =
     let exit = err_from_is_err_and c.from-residual.result c.from-residual.ensures.1 in
-    let answer = header_refused _ _ c.args.bytes.now _ c.in-err-test-header.ensures in
+    let answer = header_refused _ _ c.args.bytes.now _ c.in_err-test-header.ensures in
     rw (exit.1, exit.2) (record { answer = answer; written = accepts-written _ _ _ _ (All-from_get_or _ _ 0 (λ i lt. (c.type-inv.bytes i).fits)) answer })

@@ -7,7 +7,7 @@ use Rattle.stores.proofs.memories.MemoryBlockStore.read.Goals as goal
 pub returns : goal.returns
 returns c =
     let bytes = vec_items c.args.self.now.bytes in
-    let admitted = c.in-ok-admit.ensures.admitted in
+    let admitted = c.in_ok-admit.ensures.admitted in
     let within : c.args.block < length (run_blocks bytes) = omega (arith, c.count.ensures.blocks) in
     let copied : c.copy-from-slice.new.self ≡ take 256 (drop (c.args.block * 256) bytes) = search rules in
     record {

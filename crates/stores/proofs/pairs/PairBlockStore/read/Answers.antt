@@ -9,7 +9,7 @@ returns-then-block-first g c =
     let first = g.A.BlockStore.blocks c.args.self.now.first in
     let second = g.B.BlockStore.blocks c.args.self.now.second in
     let r = g.B.BlockStore.rest c.args.self.now.second in
-    let admitted = c.in-ok-admit.ensures.admitted in
+    let admitted = c.in_ok-admit.ensures.admitted in
     let stands = front-stands first second c.args.block (omega (arith, c.count.ensures.blocks)) (omega (arith, c.if-block-first.true, c.count-first.ensures)) in
     let inner = c.read.ensures in
     record {
@@ -24,7 +24,7 @@ returns g c =
     let first = g.A.BlockStore.blocks c.args.self.now.first in
     let second = g.B.BlockStore.blocks c.args.self.now.second in
     let q = g.A.BlockStore.rest c.args.self.now.first in
-    let admitted = c.in-ok-admit.ensures.admitted in
+    let admitted = c.in_ok-admit.ensures.admitted in
     let stands = back-stands first second c.args.block (omega (arith, c.count.ensures.blocks)) (c.args.block - c.count-first.result) (omega (arith, c.if-block-first.false, c.count-first.ensures)) in
     let inner = c.read-2.ensures in
     record {

@@ -7,7 +7,7 @@ use Rattle.stores.proofs.shelves.ShelfBlockStore.read.Goals as goal
 pub returns : goal.returns
 returns g c =
     let s = c.args.self.now in
-    let admitted = c.in-ok-admit.ensures.admitted in
+    let admitted = c.in_ok-admit.ensures.admitted in
     let stands = part-stands s.start s.limit (g.S.BlockStore.blocks s.store) c.args.block (omega (arith, c.count.ensures.blocks)) in
     let inner = c.read.ensures in
     record {
