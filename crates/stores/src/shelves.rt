@@ -17,8 +17,8 @@ impl<S: BlockStore> Shelf<S> {
     // At most `limit` blocks of the store, from block `start` on. Any two numbers make a shelf; one past the end is empty.
     pub fn new(store: S, start: usize, limit: usize) -> Shelf<S>
         ensures owned { result.store ≡ store }
-        ensures blocks { shelf_blocks blocks result ≡ part start limit (blocks store) }
-        ensures rest { shelf_rest blocks rest result ≡ off_shelf start limit (blocks store) (rest store) }
+        ensures blocks { shelf_blocks S.blocks result ≡ part start limit (S.blocks store) }
+        ensures rest { shelf_rest S.blocks S.rest result ≡ off_shelf start limit (S.blocks store) (S.rest store) }
     {
         Self {
             store,
@@ -29,7 +29,7 @@ impl<S: BlockStore> Shelf<S> {
 
     pub fn into_store(self) -> S
         ensures owned { result ≡ self.store }
-        ensures blocks { blocks result ≡ (shelf_rest blocks rest self).before ++ shelf_blocks blocks self ++ (shelf_rest blocks rest self).behind }
+        ensures blocks { S.blocks result ≡ (shelf_rest S.blocks S.rest self).before ++ shelf_blocks S.blocks self ++ (shelf_rest S.blocks S.rest self).behind }
     {
         let Shelf {
             store,

@@ -4,7 +4,7 @@ use Rattle.parcels.proofs.Counting.{counted_none, counted-fits, message-counted,
 use Rattle.parcels.proofs.parcel.Parcel.counts.Goals as goal
 
 pub loop-item-init : goal.loop-item-init
-loop-item-init c = (tt, tt, counted_none _ _ c.items-item-items.ensures.few (ap to_come c.into_iter-item-iterator.ensures.into_iter-gives ∙ c.items-item-items.ensures.items))
+loop-item-init c = (tt, tt, counted_none _ _ c.items-item-items.ensures.few (ap to_come c.into_iter-item-iterator.ensures.into_iter_gives ∙ c.items-item-items.ensures.items))
 
 pub overflow_add-messages : goal.overflow_add-messages
 overflow_add-messages c = record { fits = (counted-fits (message-counted c.loop-item.invariant.2 (rw c.in-Message.is at c.in-Some.ensures.steps))).0 }

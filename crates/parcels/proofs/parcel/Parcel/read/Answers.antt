@@ -13,7 +13,7 @@ returns-in_err-test-items c =
 
 pub returns : goal.returns
 returns c =
-    let answer = parcel-accepted _ _ c.args.bytes.now _ c.in_ok-test-header.ensures c.u16-at-count.ensures _ c.u32-at-chapter.ensures c.in_ok-test-items.ensures in
+    let answer = parcel-accepted _ _ c.args.bytes.now _ c.in_ok-test_header.ensures c.u16_at-count.ensures _ c.u32_at-chapter.ensures c.in_ok-test-items.ensures in
     record { answer = answer; written = accepts-written _ _ _ _ (All-from_get_or _ _ 0 (λ i lt. (c.type-inv.bytes i).fits)) answer }
 
 pub returns-in_err-test-header : goal.returns-in_err-test-header

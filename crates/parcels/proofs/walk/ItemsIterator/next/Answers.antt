@@ -5,7 +5,7 @@ use Rattle.parcels.proofs.walk.ItemsIterator.next.Goals as goal
 pub returns-in_err-item : goal.returns-in_err-item
 returns-in_err-item c =
     let none = walk_none c.args.self.now (sym c.in_err-item.ensures) in
-    rw c.from-residual.ensures (record { steps = (none, none); goes = search rules })
+    rw c.from_residual.ensures (record { steps = (none, none); goes = search rules })
 
 pub returns : goal.returns
 returns c = record {

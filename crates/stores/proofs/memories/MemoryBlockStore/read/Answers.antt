@@ -9,7 +9,7 @@ returns c =
     let bytes = vec_items c.args.self.now.bytes in
     let admitted = c.in_ok-admit.ensures.admitted in
     let within : c.args.block < length (run_blocks bytes) = omega (arith, c.count.ensures.blocks) in
-    let copied : c.copy-from-slice.new.self ≡ take 256 (drop (c.args.block * 256) bytes) = search rules in
+    let copied : c.copy_from_slice.new.self ≡ take 256 (drop (c.args.block * 256) bytes) = search rules in
     record {
       answer = accepts (run_blocks bytes) c.args.block c.args.buffer.now admitted.0 within;
       buffer = copied ∙ sym (get_or-cut (run_count bytes) c.args.block bytes (omega arith)) ∙ reads (run_blocks bytes) c.args.block c.args.buffer.now admitted.0 within;

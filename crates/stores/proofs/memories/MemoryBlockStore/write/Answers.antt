@@ -16,8 +16,8 @@ returns c =
     let admitted = c.in_ok-admit.ensures.admitted in
     let within : n < length (run_blocks bytes) = omega (arith, c.count.ensures.blocks) in
     let whole = length_over bytes block n (omega arith) admitted.0 in
-    let written : put_mid (n * 256) (n * 256 + 256 - n * 256) c.as-mut-slice-bytes.result.now c.copy-from-slice.new.self ≡ over n bytes block = search rules in
-    let after : vec_items (with_items vec (put_mid (n * 256) (n * 256 + 256 - n * 256) c.as-mut-slice-bytes.result.now c.copy-from-slice.new.self)) ≡ over n bytes block =
+    let written : put_mid (n * 256) (n * 256 + 256 - n * 256) c.as_mut_slice-bytes.result.now c.copy_from_slice.new.self ≡ over n bytes block = search rules in
+    let after : vec_items (with_items vec (put_mid (n * 256) (n * 256 + 256 - n * 256) c.as_mut_slice-bytes.result.now c.copy_from_slice.new.self)) ≡ over n bytes block =
     ap (λ xs. vec_items (with_items vec xs)) written ∙ with_items_is vec (over n bytes block) (whole ∙ sym vec.ok.0) in
     record {
       answer = accepts (run_blocks bytes) n block admitted.0 within;
