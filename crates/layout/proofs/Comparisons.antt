@@ -2,7 +2,7 @@
 -- Assumes nothing.
 use Rattle.std.proofs.Common.{◌≡◌, ℕ, ◌<◌, ◌⊎◌, List, [], ◌∷◌, Ordering, Less, Equal, Greater, sym, refl, ap, ◌∙◌, ap₂, inl, inr, ⊎_elim, arith}
 use Rattle.std.proofs.lemmas.Bool.Decides.{nat_tests}
-use Rattle.std.specs.Cmp.{rank as compared}
+use Rattle.std.specs.Ordering.{nat_cmp as compared}
 use Rattle.std.specs.Ordering.{ordering_reverse, ordering_then}
 use Rattle.layout.specs.Orders.{TotalOrder, lexical}
 

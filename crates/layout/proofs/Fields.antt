@@ -2,7 +2,7 @@
 use Rattle.std.proofs.Common.{◌≡◌, ℕ, zero, suc, ◌+◌, ◌-◌, ◌*◌, ◌<◌, min, Bool, true, false, cond, List, [], ◌∷◌, length, get_or, take, drop, is_some, Some, Ordering, Less, Equal, Greater, sym, refl, ap, ◌∙◌, ⊎_elim, arith}
 use Rattle.std.proofs.lemmas.List.{take_rest, drop_all, at_drop_more}
 use Rattle.std.proofs.lemmas.Bool.{true≢false, false≢true, cases_Bool, cases_lt, cond-true, cond-false}
-use Rattle.std.specs.Cmp.{rank as compared}
+use Rattle.std.specs.Ordering.{nat_cmp as compared}
 use Rattle.std.specs.Ordering.{is_ne, ordering_then}
 use Rattle.std.specs.List.{AllByRecursion as All}
 use Rattle.fields.specs.Numbers.{Bytes, number}

@@ -2,7 +2,7 @@
 use Rattle.std.specs.Prelude.{◌≡◌, ℕ, Bool, true, false, List, [], ◌∷◌}
 use Rattle.std.specs.declared.cmp.Ordering.TheVariants.{Less, Equal, Greater}
 use Rattle.std.specs.declared.cmp.Ordering.{Ordering}
-use Rattle.std.specs.Cmp.{rank as compared}
+use Rattle.std.specs.Ordering.{nat_cmp as compared}
 use Rattle.std.specs.Ordering.{ordering_reverse, ordering_then}
 
 -- The order is total over all of which D holds. It answers one of three, so every two can be compared; equals come out

@@ -2,7 +2,7 @@
 #![tactic(auto)]
 
 ghost use Rattle.std.specs.Prelude.{◌≡◌};
-ghost use Rattle.std.specs.Cmp.{rank as compared};
+ghost use Rattle.std.specs.Ordering.{nat_cmp as compared};
 ghost use Rattle.layout.specs.Layout.{by_fields, first_invalid, lowered, value as valued};
 
 use fields::{byte_at, u32_at};

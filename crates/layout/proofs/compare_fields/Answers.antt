@@ -8,13 +8,13 @@ use Rattle.layout.proofs.compare_fields.Goals as goal
 pub loop-field-preserved : goal.loop-field-preserved
 loop-field-preserved c =
     let step = fields-more c.args.fields.now c.args.a.now c.args.b.now c.loop-field.field-index c.loop-field-test.true in
-    let equal = ap is_ne (sym c.compare-order.ensures) ∙ sym c.if-is-ne.ensures in
+    let equal = ap is_ne (sym c.compare-order.ensures) ∙ sym c.if-is_ne.ensures in
     sym (step ∙ then_equal _ _ equal) ∙ c.loop-field.invariant
 
-pub returns-then-is-ne : goal.returns-then-is-ne
-returns-then-is-ne c =
+pub returns-then-is_ne : goal.returns-then-is_ne
+returns-then-is_ne c =
     let step = fields-more c.args.fields.now c.args.a.now c.args.b.now c.loop-field.field-index c.loop-field-test.true in
-    let decided = ap is_ne (sym c.compare-order.ensures) ∙ sym c.if-is-ne.ensures in
+    let decided = ap is_ne (sym c.compare-order.ensures) ∙ sym c.if-is_ne.ensures in
     c.compare-order.ensures ∙ sym (step ∙ then-decided _ _ decided) ∙ c.loop-field.invariant
 
 pub returns : goal.returns

@@ -11,8 +11,8 @@ loop-preserved c =
     let read = sym c.in-Some.ensures in
     (omega (arith, length-after c.args.width c.loop.rest.now _ read), refused-after c.loop.invariant.1 _ _ (omega arith) read)
 
-pub returns-then-not-is-empty : goal.returns-then-not-is-empty
-returns-then-not-is-empty c = refused-surplus c.loop.invariant.1 (omega arith) (search rules)
+pub returns-then-not-is_empty : goal.returns-then-not-is_empty
+returns-then-not-is_empty c = refused-surplus c.loop.invariant.1 (omega arith) (search rules)
 
 pub returns : goal.returns
 returns c = refused_none c.loop.invariant.1 (omega arith) (search rules)

@@ -7,4 +7,4 @@ returns-then-i-lt16 g c = shifted-bit c.mask-mask.result c.args.i ∙ ap (λ m. 
 
 pub returns-else-i-lt16 : goal.returns-else-i-lt16
 returns-else-i-lt16 g c =
-    no-bit c.mask-mask.result c.args.i c.mask-mask.type-inv c.if-i-lt16.false ∙ ap (λ m. eqb (m / 2 ^ c.args.i % 2) 1) c.mask-mask.ensures
+    no-bit c.mask-mask.result c.args.i c.mask-mask.type_inv c.if-i-lt16.false ∙ ap (λ m. eqb (m / 2 ^ c.args.i % 2) 1) c.mask-mask.ensures

@@ -13,7 +13,7 @@ returns-then-is-message c =
     let r = c.read.result in
     let got = c.read.ensures in
     let valid = sym c.if-is-message.ensures in
-    let bytes : Bytes m = All-from_get_or _ m 0 (λ i _. (c.type-inv.message i).fits) in
+    let bytes : Bytes m = All-from_get_or _ m 0 (λ i _. (c.type_inv.message i).fits) in
     record {
       value = decodes paragraphs read encoded m r got valid;
       inverse = encodes paragraphs read encoded m r got (encoded-read m bytes valid);

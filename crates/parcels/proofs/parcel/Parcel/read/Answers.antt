@@ -5,19 +5,19 @@ use Rattle.parcels.proofs.Walking.{header_refused, parcel-refused, parcel-accept
 use Rattle.parcels.proofs.Written.{accepts-written}
 use Rattle.parcels.proofs.parcel.Parcel.read.Goals as goal
 
-pub returns-in_err-test-items : goal.returns-in_err-test-items
-returns-in_err-test-items c =
-    let exit = err_from_is_err_and c.from-residual-in_err-test-items.result c.from-residual-in_err-test-items.ensures.1 in
-    let answer = parcel-refused _ _ c.args.bytes.now _ c.in_ok-test-header.ensures c.u16-at-count.ensures _ c.in_err-test-items.ensures in
-    rw (exit.1, exit.2) (record { answer = answer; written = accepts-written _ _ _ _ (All-from_get_or _ _ 0 (λ i lt. (c.type-inv.bytes i).fits)) answer })
+pub returns-in_err-test_items : goal.returns-in_err-test_items
+returns-in_err-test_items c =
+    let exit = err_from_is_err_and c.from_residual-in_err-test_items.result c.from_residual-in_err-test_items.ensures.1 in
+    let answer = parcel-refused _ _ c.args.bytes.now _ c.in_ok-test_header.ensures c.u16_at-count.ensures _ c.in_err-test_items.ensures in
+    rw (exit.1, exit.2) (record { answer = answer; written = accepts-written _ _ _ _ (All-from_get_or _ _ 0 (λ i lt. (c.type_inv.bytes i).fits)) answer })
 
 pub returns : goal.returns
 returns c =
-    let answer = parcel-accepted _ _ c.args.bytes.now _ c.in_ok-test_header.ensures c.u16_at-count.ensures _ c.u32_at-chapter.ensures c.in_ok-test-items.ensures in
-    record { answer = answer; written = accepts-written _ _ _ _ (All-from_get_or _ _ 0 (λ i lt. (c.type-inv.bytes i).fits)) answer }
+    let answer = parcel-accepted _ _ c.args.bytes.now _ c.in_ok-test_header.ensures c.u16_at-count.ensures _ c.u32_at-chapter.ensures c.in_ok-test_items.ensures in
+    record { answer = answer; written = accepts-written _ _ _ _ (All-from_get_or _ _ 0 (λ i lt. (c.type_inv.bytes i).fits)) answer }
 
-pub returns-in_err-test-header : goal.returns-in_err-test-header
-returns-in_err-test-header c =
-    let exit = err_from_is_err_and c.from-residual.result c.from-residual.ensures.1 in
-    let answer = header_refused _ _ c.args.bytes.now _ c.in_err-test-header.ensures in
-    rw (exit.1, exit.2) (record { answer = answer; written = accepts-written _ _ _ _ (All-from_get_or _ _ 0 (λ i lt. (c.type-inv.bytes i).fits)) answer })
+pub returns-in_err-test_header : goal.returns-in_err-test_header
+returns-in_err-test_header c =
+    let exit = err_from_is_err_and c.from_residual.result c.from_residual.ensures.1 in
+    let answer = header_refused _ _ c.args.bytes.now _ c.in_err-test_header.ensures in
+    rw (exit.1, exit.2) (record { answer = answer; written = accepts-written _ _ _ _ (All-from_get_or _ _ 0 (λ i lt. (c.type_inv.bytes i).fits)) answer })
