@@ -63,14 +63,14 @@ impl<'a, K: EntryKind> TreeBlock<'a, K> {
 
     // The message in slot i, where it lies in the block.
     pub fn slot(&self, i: usize) -> &'a [u8]
-        ensures { result.now ≡ slot_in kind (bytes_of self.now) i }
+        ensures { result.now ≡ slot_in K.kind (bytes_of self.now) i }
     {
         piece_at(self.bytes, 8, K::message_width(), i)
     }
 
     // What the record of section i says.
     pub fn section(&self, i: usize) -> SectionFields
-        ensures { result ≡ section_at kind (alpha_of self.now) (bytes_of self.now) i }
+        ensures { result ≡ section_at K.kind (alpha_of self.now) (bytes_of self.now) i }
     {
         let after_slots = 8 + usize::from(self.alpha) * K::message_width();
         let record = piece_at(self.bytes, after_slots, 8, i);
@@ -83,7 +83,7 @@ impl<'a, K: EntryKind> TreeBlock<'a, K> {
 
     // The message of the key, if the block has it.
     pub fn find(&self, key: &[u8]) -> Option<&'a [u8]>
-        ensures { option_map (λ x. x.now) result ≡ in_block kind key.now (bytes_of self.now) }
+        ensures { option_map (λ x. x.now) result ≡ in_block K.kind key.now (bytes_of self.now) }
     {
         for i in 0..self.entries() {
             let message = self.slot(i);
@@ -98,14 +98,14 @@ impl<'a, K: EntryKind> TreeBlock<'a, K> {
 
     // Slot i has an active separator that is below the key.
     fn separates(&self, i: usize, key: &[u8]) -> bool
-        ensures { result ≡ separator_below kind key.now (bytes_of self.now) i (slot_in kind (bytes_of self.now) i) }
+        ensures { result ≡ separator_below K.kind key.now (bytes_of self.now) i (slot_in K.kind (bytes_of self.now) i) }
     {
         self.is_active(i) && K::compare_keys(key_of::<K>(self.slot(i)), key).is_lt()
     }
 
     // The section that the key belongs to, from 0: so many active separators are below it.
     pub fn section_for(&self, key: &[u8]) -> usize
-        ensures { result ≡ section_for kind key.now (bytes_of self.now) }
+        ensures { result ≡ section_for K.kind key.now (bytes_of self.now) }
     {
         let mut below = 0;
         for i in 0..self.entries() {
@@ -116,14 +116,14 @@ impl<'a, K: EntryKind> TreeBlock<'a, K> {
 
     // The number of the block of that section, 0 if it has none.
     pub fn next_block(&self, key: &[u8]) -> u16
-        ensures { result ≡ next_block kind key.now (alpha_of self.now) (bytes_of self.now) }
+        ensures { result ≡ next_block K.kind key.now (alpha_of self.now) (bytes_of self.now) }
     {
         self.section(self.section_for(key)).number
     }
 
     // The measure of the message in slot i, or 0 unless it is below the key.
     fn measure_if_below(&self, i: usize, key: &[u8]) -> u16
-        ensures { result ≡ measure_if_below kind key.now (slot_in kind (bytes_of self.now) i) }
+        ensures { result ≡ measure_if_below K.kind key.now (slot_in K.kind (bytes_of self.now) i) }
     {
         let message = self.slot(i);
         if K::compare_keys(key_of::<K>(message), key).is_lt() {
@@ -135,7 +135,7 @@ impl<'a, K: EntryKind> TreeBlock<'a, K> {
 
     // The measure of the entries below the key.
     fn entries_below(&self, key: &[u8]) -> u64
-        ensures value { result ≡ measure_below kind key.now (slots kind (bytes_of self.now)) }
+        ensures value { result ≡ measure_below K.kind key.now (slots K.kind (bytes_of self.now)) }
         ensures few { result ≤ 255 * 65535 }
     {
         let mut sum = 0;
@@ -147,7 +147,7 @@ impl<'a, K: EntryKind> TreeBlock<'a, K> {
 
     // The measure of the first sections, so many of them or all.
     fn sections_before(&self, end: usize) -> u64
-        ensures value { result ≡ sum_by (λ s. s.measure) (take end (sections_of kind (alpha_of self.now) (bytes_of self.now))) }
+        ensures value { result ≡ sum_by (λ s. s.measure) (take end (sections_of K.kind (alpha_of self.now) (bytes_of self.now))) }
         ensures few { result ≤ 17 * 4294967295 }
     {
         let mut sum = 0;
@@ -159,13 +159,13 @@ impl<'a, K: EntryKind> TreeBlock<'a, K> {
 
     // What the block has before the key: its entries below it, and the sections left of the one that the key belongs to.
     pub fn measure_before(&self, key: &[u8]) -> u64
-        ensures { result ≡ measure_before kind key.now (alpha_of self.now) (bytes_of self.now) }
+        ensures { result ≡ measure_before K.kind key.now (alpha_of self.now) (bytes_of self.now) }
     {
         self.entries_below(key) + self.sections_before(self.section_for(key))
     }
 
     fn messages_valid(&self) -> bool
-        ensures { result ≡ every (message_valid kind) (slots kind (bytes_of self.now)) }
+        ensures { result ≡ every (message_valid K.kind) (slots K.kind (bytes_of self.now)) }
     {
         for i in 0..self.entries() {
             if K::invalid_at(self.slot(i)).is_some() {
@@ -176,7 +176,7 @@ impl<'a, K: EntryKind> TreeBlock<'a, K> {
     }
 
     fn sections_sound(&self, tree_blocks: usize, number: usize) -> bool
-        ensures { result ≡ every (section_sound tree_blocks number) (sections_of kind (alpha_of self.now) (bytes_of self.now)) }
+        ensures { result ≡ every (section_sound tree_blocks number) (sections_of K.kind (alpha_of self.now) (bytes_of self.now)) }
     {
         for i in 0..self.section_count() {
             if !self.section(i).is_sound(tree_blocks, number) {
@@ -187,7 +187,7 @@ impl<'a, K: EntryKind> TreeBlock<'a, K> {
     }
 
     fn keys_rise(&self) -> bool
-        ensures { result ≡ keys_rise kind (slots kind (bytes_of self.now)) }
+        ensures { result ≡ keys_rise K.kind (slots K.kind (bytes_of self.now)) }
     {
         let mut last = self.slot(0);
         for i in 1..self.entries() {
@@ -202,7 +202,7 @@ impl<'a, K: EntryKind> TreeBlock<'a, K> {
 
     // Block `number` of a chapter of so many tree blocks may stand in its tree.
     pub fn is_well_formed(&self, tree_blocks: usize, number: usize) -> bool
-        ensures { result ≡ well_formed kind (alpha_of self.now) tree_blocks number (bytes_of self.now) }
+        ensures { result ≡ well_formed K.kind (alpha_of self.now) tree_blocks number (bytes_of self.now) }
     {
         self.is_of_kind()
             && self.messages_valid()
@@ -213,7 +213,7 @@ impl<'a, K: EntryKind> TreeBlock<'a, K> {
 
     // From 1 to alpha entries of the kind.
     fn is_of_kind(&self) -> bool
-        ensures { result ≡ of_kind kind (alpha_of self.now) (bytes_of self.now) }
+        ensures { result ≡ of_kind K.kind (alpha_of self.now) (bytes_of self.now) }
     {
         let entries = self.entries();
         1 <= entries
@@ -233,7 +233,7 @@ impl<'a, K: EntryKind> TreeBlock<'a, K> {
 
 // The key is the front of a message.
 pub fn key_of<K: EntryKind>(message: &[u8]) -> &[u8]
-    ensures { result.now ≡ key_of kind message.now }
+    ensures { result.now ≡ key_of K.kind message.now }
 {
     slice_at(message, 0, K::key_width())
 }

@@ -54,7 +54,7 @@ fn is_chapter(block: &[u8]) -> bool
 
 // The block is the head of a chapter of the kind.
 fn is_head<K: EntryKind>(block: &[u8]) -> bool
-    ensures { result ≡ head_right kind block.now }
+    ensures { result ≡ head_right K.kind block.now }
 {
     let head = head_fields(block);
     is_chapter(block) && byte_at(block, 5) == K::kind_number() && head.is_sound(K::message_width())
@@ -72,7 +72,7 @@ impl Head {
 
     // What block 0 says, or none where it is not the head of a chapter of the kind.
     pub fn read<K: EntryKind>(block: &[u8]) -> Option<Head>
-        ensures { result ≡ read_head kind block.now }
+        ensures { result ≡ read_head K.kind block.now }
     {
         if is_head::<K>(block) {
             Some(head_fields(block))

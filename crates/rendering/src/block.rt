@@ -15,7 +15,7 @@ use measured_planner::row::{Row, SectionRow};
 // The first eight bytes of a block.
 fn front_bytes<K: EntryKind>(row: &Row) -> [u8; 8]
     requires { row.now.count ≤ 16 }
-    ensures { result ≡ front_of kind row.now }
+    ensures { result ≡ front_of K.kind row.now }
 {
     let [m0, m1] = u16_bytes(row.mask);
     let [w0, w1] = u16_bytes(row.weight);
@@ -48,7 +48,7 @@ fn sections_of(row: &Row) -> &[SectionRow]
 }
 
 fn can_render<K: EntryKind>(row: &Row, table: &[u8], alpha: usize) -> bool
-    ensures { result ≡ renderable kind alpha table.now row.now }
+    ensures { result ≡ renderable K.kind alpha table.now row.now }
 {
     alpha_fits(K::message_width(), alpha)
         && usize::from(row.count) <= alpha
@@ -58,10 +58,10 @@ fn can_render<K: EntryKind>(row: &Row, table: &[u8], alpha: usize) -> bool
 
 // Writes the messages of some ranks one after the other; the answer is where they end.
 fn write_slots<K: EntryKind>(ranks: &[u16], table: &[u8], block: &mut [u8; 256], at: usize) -> usize
-    requires room { at + length ranks.now * kind.width ≤ 256 }
-    requires present { every (in_table kind table.now) ranks.now ≡ true }
-    ensures end { result ≡ at + length ranks.now * kind.width }
-    ensures laid { (front : List ℕ) → Laid front at block.old → Laid (front ++ flat_map (message_at kind table.now) ranks.now) result block.new }
+    requires room { at + length ranks.now * K.kind.width ≤ 256 }
+    requires present { every (in_table K.kind table.now) ranks.now ≡ true }
+    ensures end { result ≡ at + length ranks.now * K.kind.width }
+    ensures laid { (front : List ℕ) → Laid front at block.old → Laid (front ++ flat_map (message_at K.kind table.now) ranks.now) result block.new }
 {
     let mut end = at;
     for rank in ranks {
@@ -90,8 +90,8 @@ pub fn render_block<K: EntryKind>(
     alpha: usize,
     block: &mut [u8; 256],
 ) -> bool
-    ensures answer { result ≡ renderable kind alpha table.now row.now }
-    ensures block { block.new ≡ (if renderable kind alpha table.now row.now then row_block kind alpha table.now row.now else block.old) }
+    ensures answer { result ≡ renderable K.kind alpha table.now row.now }
+    ensures block { block.new ≡ (if renderable K.kind alpha table.now row.now then row_block K.kind alpha table.now row.now else block.old) }
 {
     if !can_render::<K>(row, table, alpha) {
         return false;

@@ -10,8 +10,8 @@ use kinds::EntryKind;
 
 // The bytes of a head, up to the last that is used.
 fn head_bytes<K: EntryKind>(head: &Head) -> [u8; 23]
-    requires { head_sound kind.width head.now ≡ true }
-    ensures { result ≡ head_bytes kind head.now.settings head.now.chapter head.now.counts }
+    requires { head_sound K.kind.width head.now ≡ true }
+    ensures { result ≡ head_bytes K.kind head.now.settings head.now.chapter head.now.counts }
 {
     let settings = head.settings;
     let counts = head.counts;
@@ -34,8 +34,8 @@ fn head_bytes<K: EntryKind>(head: &Head) -> [u8; 23]
 // Writes what a head says as block 0. It is refused, and the block left as it was, if a setting is out of its limits, or a count
 // beyond what the settings allow.
 pub fn render_head<K: EntryKind>(head: &Head, block: &mut [u8; 256]) -> bool
-    ensures answer { result ≡ head_sound kind.width head.now }
-    ensures block { block.new ≡ (if head_sound kind.width head.now then head_block kind head.now.settings head.now.chapter head.now.counts else block.old) }
+    ensures answer { result ≡ head_sound K.kind.width head.now }
+    ensures block { block.new ≡ (if head_sound K.kind.width head.now then head_block K.kind head.now.settings head.now.chapter head.now.counts else block.old) }
 {
     if !head.is_sound(K::message_width()) {
         return false;

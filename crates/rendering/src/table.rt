@@ -8,7 +8,7 @@ use kinds::EntryKind;
 
 // The table has the message of a rank.
 fn in_table<K: EntryKind>(table: &[u8], rank: u16) -> bool
-    ensures { result ≡ in_table kind table.now rank }
+    ensures { result ≡ in_table K.kind table.now rank }
 {
     let width = K::message_width();
     usize::from(rank)
@@ -19,7 +19,7 @@ fn in_table<K: EntryKind>(table: &[u8], rank: u16) -> bool
 
 // The table has the messages of all ranks.
 pub(crate) fn all_in_table<K: EntryKind>(table: &[u8], ranks: &[u16]) -> bool
-    ensures { result ≡ every (in_table kind table.now) ranks.now }
+    ensures { result ≡ every (in_table K.kind table.now) ranks.now }
 {
     for rank in ranks {
         if !in_table::<K>(table, *rank) {
@@ -31,7 +31,7 @@ pub(crate) fn all_in_table<K: EntryKind>(table: &[u8], ranks: &[u16]) -> bool
 
 // The message of a rank.
 pub(crate) fn message<K: EntryKind>(table: &[u8], rank: u16) -> &[u8]
-    ensures { result.now ≡ message_at kind table.now rank }
+    ensures { result.now ≡ message_at K.kind table.now rank }
 {
     piece_at(table, 0, K::message_width(), usize::from(rank))
 }

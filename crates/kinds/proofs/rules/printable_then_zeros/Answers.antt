@@ -2,7 +2,7 @@ use Rattle.std.proofs.Common.{◌+◌, drop, sym, ap, ◌∙◌}
 use Rattle.std.proofs.lemmas.List.{at_drop_all}
 use Rattle.kinds.proofs.Terms.{left, left-none, turn-zero, turn-printable, turn-past, turn-other}
 use Rattle.kinds.proofs.rules.printable_then_zeros.Goals as goal
-use Rattle.kinds.proofs.rules.printable_then_zeros.Goals.{then-b-eq0, else-b-eq0+else-ended+else-not-is-printable, then-ended-via-then-ended, then-ended-via-else-ended+then-not-is-printable}
+use Rattle.kinds.proofs.rules.printable_then_zeros.Goals.{then-b-eq0, else-b-eq0+else-ended+else-not-is_printable, then-ended-via-then-ended, then-ended-via-else-ended+then-not-is_printable}
 
 pub returns-then-ended : goal.returns-then-ended
 returns-then-ended c =
@@ -13,8 +13,8 @@ returns-then-ended c =
     elim c.then-ended.branch [
       | then-ended-via-then-ended w ↦
           sym (turn-past ended bytes i lt w.if-ended.true c.if-b-eq0.false) ∙ c.loop-b.invariant
-      | then-ended-via-else-ended+then-not-is-printable w ↦
-          sym (turn-other ended bytes i lt w.if-ended.false c.if-b-eq0.false (sym w.if-not-is-printable.ensures)) ∙ c.loop-b.invariant
+      | then-ended-via-else-ended+then-not-is_printable w ↦
+          sym (turn-other ended bytes i lt w.if-ended.false c.if-b-eq0.false (sym w.if-not-is_printable.ensures)) ∙ c.loop-b.invariant
     ]
 
 pub loop-b-preserved : goal.loop-b-preserved
@@ -27,9 +27,9 @@ loop-b-preserved c =
     elim c.if-b-eq0.branch [
       | then-b-eq0 w ↦
           ap (λ t. left t rest) w.ended-is ∙ sym (turn-zero ended bytes i lt w.if-b-eq0.true) ∙ c.loop-b.invariant
-      | else-b-eq0+else-ended+else-not-is-printable w ↦
+      | else-b-eq0+else-ended+else-not-is_printable w ↦
           ap (λ t. left t rest) (w.ended-is ∙ w.if-ended.false) ∙
-          sym (turn-printable ended bytes i lt w.if-ended.false (sym w.if-not-is-printable.ensures)) ∙ c.loop-b.invariant
+          sym (turn-printable ended bytes i lt w.if-ended.false (sym w.if-not-is_printable.ensures)) ∙ c.loop-b.invariant
     ]
 
 pub returns : goal.returns
