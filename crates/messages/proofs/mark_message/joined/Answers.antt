@@ -5,15 +5,15 @@ use Rattle.messages.proofs.mark_message.joined.Goals as goal
 
 pub slice_bounds-message-end-2 : goal.slice_bounds-message-end-2
 slice_bounds-message-end-2 c =
-    let wide = length-append c.copy-from-slice.new.self (replicate 12 0) in
+    let wide = length-append c.copy_from_slice.new.self (replicate 12 0) in
     search (rules, wide)
 
 pub returns : goal.returns
 returns c =
-    let term = c.copy-from-slice.new.self in
-    let wide : length term ≡ 16 = c.copy-from-slice.ensures.len in
-    let same = c.copy-from-slice.ensures.after in
+    let term = c.copy_from_slice.new.self in
+    let wide : length term ≡ 16 = c.copy_from_slice.ensures.len in
+    let same = c.copy_from_slice.ensures.after in
     record {
-      value = put_last term (replicate 12 0) c.copy-from-slice-2.new.self 16 12 wide refl ∙ ap₂ ◌++◌ same c.copy-from-slice-2.ensures.after;
+      value = put_last term (replicate 12 0) c.copy_from_slice-2.new.self 16 12 wide refl ∙ ap₂ ◌++◌ same c.copy_from_slice-2.ensures.after;
       width = sym (ap length same) ∙ wide;
     }

@@ -7,12 +7,12 @@ use Rattle.messages.proofs.Paragraphs.{encoded-read}
 use Rattle.messages.proofs.Validity.{decodes, encodes}
 use Rattle.messages.proofs.paragraph_message.Paragraph.decode.Goals as goal
 
-pub returns-then-is-message : goal.returns-then-is-message
-returns-then-is-message c =
+pub returns-then-is_message : goal.returns-then-is_message
+returns-then-is_message c =
     let m = c.args.message.now in
     let r = c.read.result in
     let got = c.read.ensures in
-    let valid = sym c.if-is-message.ensures in
+    let valid = sym c.if-is_message.ensures in
     let bytes : Bytes m = All-from_get_or _ m 0 (λ i _. (c.type_inv.message i).fits) in
     record {
       value = decodes paragraphs read encoded m r got valid;
