@@ -49,7 +49,7 @@ fn head_fields(block: &[u8]) -> Head
 fn is_chapter(block: &[u8]) -> bool
     ensures { result ≡ is_chapter block.now }
 {
-    slice_at(block, 0, 3) == b"GAL" && u16_at(block, 3) == VERSION
+    slice_at(block, 0, 3) == b"GAL".as_slice() && u16_at(block, 3) == VERSION
 }
 
 // The block is the head of a chapter of the kind.

@@ -20,7 +20,7 @@ more c chosen own others =
     rw (take_more xs i 0 within)
     (subst (λ n. Earliest (rank_before c.args.priorities.now) (take i xs ++ get_or xs i 0 ∷ []) (min c.args.limit (n + 1)) chosen) long
     (earliest-more (strict c.args.priorities.now) (take i xs) (get_or xs i 0) c.loop-rank.count c.args.limit c.make-place-at.result c.loop-rank.chosen c.make-place-at.new.chosen
-    (c.loop-rank.invariant.1 ∙ ap (min c.args.limit) (sym long)) (distinct-front xs i c.requires.1 within) c.loop-rank.invariant.0 c.make-place-at.ensures.made c.make-place-at.ensures.stops
+    (c.loop-rank.invariant.1 ∙ ap (min c.args.limit) (sym long)) (distinct-front xs i c.requires.distinct within) c.loop-rank.invariant.0 c.make-place-at.ensures.made c.make-place-at.ensures.stops
     chosen own others))
 
 pub loop-rank-preserved : goal.loop-rank-preserved

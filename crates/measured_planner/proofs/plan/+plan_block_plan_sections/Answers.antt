@@ -21,16 +21,16 @@ use Rattle.measured_planner.proofs.plan.+plan_block_plan_sections.Goals as goal
 sum_first : (measures zs : List ℕ) (count measure : ℕ) → measure ≡ measure_of measures (take count zs) → measure ≡ measure_of measures (take (count - 0) zs)
 sum_first measures zs count measure is = rw (sub-zero count) is
 
-pub plan-block-begin-row-row-requires : goal.plan-block-begin-row-row-requires
-plan-block-begin-row-row-requires t c =
+pub plan_block-begin_row-row-requires : goal.plan_block-begin_row-row-requires
+plan_block-begin_row-row-requires t c =
     let some : 0 < length c.args.ranks.now = omega arith in
     record {
       fits = omega (arith, (divided c.args.priorities.now c.args.settings.alpha c.args.settings.rho c.requires.settings c.of-bounds.result c.args.ranks.now some c.requires.apart c.of-bounds.ensures.block c.of-bounds.ensures.active).held);
       few = omega arith;
     }
 
-pub plan-block-plan-sections-beneath-requires : goal.plan-block-plan-sections-beneath-requires
-plan-block-plan-sections-beneath-requires t c =
+pub plan_block-plan_sections-beneath-requires : goal.plan_block-plan_sections-beneath-requires
+plan_block-plan_sections-beneath-requires t c =
     let ps = c.args.priorities.now in
     let alpha = c.args.settings.alpha in
     let rho = c.args.settings.rho in
@@ -44,10 +44,10 @@ plan-block-plan-sections-beneath-requires t c =
     let parts = known.parts in
     let less = known.falls in
     let falls : 3 * left_by ps b xs + length (cut_by ps b xs) < t = omega arith in
-    (falls, (c.requires.settings, (c.requires.apart, (omega arith, (omega arith, (omega arith, (omega arith, (rw c.begin-row-row.ensures (omega arith), rw c.begin-row-row.ensures (omega arith)))))))))
+    (falls, (c.requires.settings, (c.requires.apart, (omega arith, (omega arith, (omega arith, (omega arith, (rw c.begin_row-row.ensures (omega arith), rw c.begin_row-row.ensures (omega arith)))))))))
 
-pub plan-block-overflow_add-result : goal.plan-block-overflow_add-result
-plan-block-overflow_add-result t c =
+pub plan_block-overflow_add-result : goal.plan_block-overflow_add-result
+plan_block-overflow_add-result t c =
     let ps = c.args.priorities.now in
     let alpha = c.args.settings.alpha in
     let rho = c.args.settings.rho in
@@ -55,11 +55,11 @@ plan-block-overflow_add-result t c =
     let some : 0 < length xs = omega arith in
     let few = subtree-few ps alpha rho c.requires.settings c.args.parent c.args.number xs c.requires.apart in
     let whole = ap length (subtree-parts ps alpha rho c.requires.settings c.of-bounds.result xs some c.requires.apart c.of-bounds.ensures.block c.of-bounds.ensures.active c.args.parent c.args.number) in
-    let beneath = c.plan-sections-beneath.ensures.count in
+    let beneath = c.plan_sections-beneath.ensures.count in
     omega arith
 
-pub plan-block-overflow_add-result-2 : goal.plan-block-overflow_add-result-2
-plan-block-overflow_add-result-2 t c =
+pub plan_block-overflow_add-result-2 : goal.plan_block-overflow_add-result-2
+plan_block-overflow_add-result-2 t c =
     let ps = c.args.priorities.now in
     let alpha = c.args.settings.alpha in
     let rho = c.args.settings.rho in
@@ -68,11 +68,11 @@ plan-block-overflow_add-result-2 t c =
     let few = subtree-few ps alpha rho c.requires.settings c.args.parent c.args.number xs c.requires.apart in
     let bound = subtree-visits ps alpha rho c.requires.settings c.args.parent c.args.number xs (omega arith) in
     let whole = subtree-visited ps alpha rho c.requires.settings c.of-bounds.result xs some c.requires.apart c.of-bounds.ensures.block c.of-bounds.ensures.active c.args.parent c.args.number in
-    let beneath = c.plan-sections-beneath.ensures.visits in
+    let beneath = c.plan_sections-beneath.ensures.visits in
     omega arith
 
-pub plan-block-returns : goal.plan-block-returns
-plan-block-returns t c =
+pub plan_block-returns : goal.plan_block-returns
+plan_block-returns t c =
     let ps = c.args.priorities.now in
     let alpha = c.args.settings.alpha in
     let rho = c.args.settings.rho in
@@ -80,28 +80,28 @@ plan-block-returns t c =
     let b = c.of-bounds.result in
     let parent = c.args.parent in
     let k = c.args.number in
-    let last = c.plan-sections-beneath.new in
+    let last = c.plan_sections-beneath.new in
     let some : 0 < length xs = omega arith in
     let noted : last.row ≡ row_of c.args.measures.now (root_node (rank_before ps) alpha rho (subtree ps alpha rho k) parent k xs) =
-    c.plan-sections-beneath.ensures.noted
-    ∙ ap (λ row. with_sections row (sets row.sections 0 (map (section_row c.args.measures.now) (numbered (subtree ps alpha rho k) (k + 1) (cut_by ps b xs))))) c.begin-row-row.ensures
+    c.plan_sections-beneath.ensures.noted
+    ∙ ap (λ row. with_sections row (sets row.sections 0 (map (section_row c.args.measures.now) (numbered (subtree ps alpha rho k) (k + 1) (cut_by ps b xs))))) c.begin_row-row.ensures
     ∙ root-row ps alpha rho c.requires.settings b xs some c.requires.apart c.of-bounds.ensures.block c.of-bounds.ensures.active parent k c.args.measures.now in
     let whole = ap length (subtree-parts ps alpha rho c.requires.settings b xs some c.requires.apart c.of-bounds.ensures.block c.of-bounds.ensures.active parent k) in
-    let beneath = c.plan-sections-beneath.ensures.count in
+    let beneath = c.plan_sections-beneath.ensures.count in
     record {
       rows =
-          ap (λ table. set table (k - 1) last.row) c.plan-sections-beneath.ensures.rows
+          ap (λ table. set table (k - 1) last.row) c.plan_sections-beneath.ensures.rows
           ∙ root-placed ps alpha rho c.requires.settings b xs some c.requires.apart c.of-bounds.ensures.block c.of-bounds.ensures.active parent k c.args.measures.now c.args.table.now last.row c.requires.first noted;
       count = omega arith;
-      visits = omega (arith, c.plan-sections-beneath.ensures.visits, c.plan-sections-beneath.auto.ranks, subtree-visited ps alpha rho c.requires.settings b xs some c.requires.apart c.of-bounds.ensures.block c.of-bounds.ensures.active parent k);
+      visits = omega (arith, c.plan_sections-beneath.ensures.visits, c.plan_sections-beneath.auto.ranks, subtree-visited ps alpha rho c.requires.settings b xs some c.requires.apart c.of-bounds.ensures.block c.of-bounds.ensures.active parent k);
     }
 
-pub plan-sections-plan-block-first-requires : goal.plan-sections-plan-block-first-requires
-plan-sections-plan-block-first-requires t c =
+pub plan_sections-plan_block-first-requires : goal.plan_sections-plan_block-first-requires
+plan_sections-plan_block-first-requires t c =
     let ps = c.args.priorities.now in
     let b = c.args.place.bounds in
     let xs = c.args.ranks.now in
-    let gathered = c.gather-section-gathered in
+    let gathered = c.gather_section-gathered in
     let part = first_part ps b xs gathered.new.ranks gathered.result.length gathered.result.end gathered.ensures.first in
     let long = length-first ps b xs gathered.new.ranks gathered.result.length gathered.result.end gathered.ensures.first gathered.auto.ranks in
     let left = left-first ps b xs _ part.0 part.1 in
@@ -109,45 +109,45 @@ plan-sections-plan-block-first-requires t c =
     let falls : 3 * length (take (gathered.result.length - 0) gathered.new.ranks) < t = omega arith in
     (falls, (c.requires.settings, (apart-first ps b xs _ part.0 part.1 c.requires.apart, (c.requires.first, (omega arith, omega arith)))))
 
-pub plan-sections-section-requires : goal.plan-sections-section-requires
-plan-sections-section-requires t c =
-    let gathered = c.gather-section-gathered in
+pub plan_sections-section-requires : goal.plan_sections-section-requires
+plan_sections-section-requires t c =
+    let gathered = c.gather_section-gathered in
     let part = first_part c.args.priorities.now c.args.place.bounds c.args.ranks.now gathered.new.ranks gathered.result.length gathered.result.end gathered.ensures.first in
     let long = length-first c.args.priorities.now c.args.place.bounds c.args.ranks.now gathered.new.ranks gathered.result.length gathered.result.end gathered.ensures.first gathered.auto.ranks in
     let left = left-first c.args.priorities.now c.args.place.bounds c.args.ranks.now _ part.0 part.1 in
     omega arith
 
-pub plan-sections-offset_bounds-row-place : goal.plan-sections-offset_bounds-row-place
-plan-sections-offset_bounds-row-place t c = omega (arith, some-part c.args.priorities.now c.args.place.bounds c.args.ranks.now)
+pub plan_sections-offset_bounds-row-place : goal.plan_sections-offset_bounds-row-place
+plan_sections-offset_bounds-row-place t c = omega (arith, some-part c.args.priorities.now c.args.place.bounds c.args.ranks.now)
 
-pub plan-sections-bounds-row-place : goal.plan-sections-bounds-row-place
-plan-sections-bounds-row-place t c = omega (arith, some-part c.args.priorities.now c.args.place.bounds c.args.ranks.now)
+pub plan_sections-bounds-row-place : goal.plan_sections-bounds-row-place
+plan_sections-bounds-row-place t c = omega (arith, some-part c.args.priorities.now c.args.place.bounds c.args.ranks.now)
 
-pub plan-sections-returns-then-place-separators : goal.plan-sections-returns-then-place-separators
-plan-sections-returns-then-place-separators t c =
+pub plan_sections-returns-then-place-separators : goal.plan_sections-returns-then-place-separators
+plan_sections-returns-then-place-separators t c =
     let ps = c.args.priorities.now in
     let b = c.args.place.bounds in
     let xs = c.args.ranks.now in
     let k = c.args.place.next in
     let below = subtree ps c.args.settings.alpha c.args.settings.rho c.args.place.block in
-    let gathered = c.gather-section-gathered in
-    let blocks = c.plan-block-first.result.blocks in
+    let gathered = c.gather_section-gathered in
+    let blocks = c.plan_block-first.result.blocks in
     let s = take (gathered.result.length - 0) gathered.new.ranks in
     let split = last-part ps b xs gathered.new.ranks gathered.result.length gathered.result.end gathered.ensures.first (omega arith) in
     let long = length-first ps b xs gathered.new.ranks gathered.result.length gathered.result.end gathered.ensures.first gathered.auto.ranks in
     record {
-      rows = rows_on below (λ j. refl) k s [] blocks c.plan-block-first.ensures.count (cut_by ps b xs) split c.args.measures.now c.args.table.now c.plan-block-first.new.table c.plan-block-first.new.table c.requires.first c.plan-block-first.ensures.rows refl;
-      noted = ap (with_sections c.args.row.now) (noted-on below (λ j. refl) k s [] blocks c.plan-block-first.ensures.count (cut_by ps b xs) split c.args.measures.now c.args.row.now.sections c.args.place.section c.section.result gathered.result.length gathered.result.measure c.section.ensures (sym long) (sum_first c.args.measures.now gathered.new.ranks gathered.result.length gathered.result.measure gathered.ensures.measure));
-      count = omega (arith, count-on below (λ j. refl) k s [] blocks c.plan-block-first.ensures.count (cut_by ps b xs) split);
-      visits = omega (arith, c.plan-block-first.ensures.visits, visits-on below (λ j. refl) k s [] blocks c.plan-block-first.ensures.count (cut_by ps b xs) split, last_end ps b xs gathered.new.ranks gathered.result.length gathered.result.end gathered.ensures.first (omega arith));
+      rows = rows_on below (λ j. refl) k s [] blocks c.plan_block-first.ensures.count (cut_by ps b xs) split c.args.measures.now c.args.table.now c.plan_block-first.new.table c.plan_block-first.new.table c.requires.first c.plan_block-first.ensures.rows refl;
+      noted = ap (with_sections c.args.row.now) (noted-on below (λ j. refl) k s [] blocks c.plan_block-first.ensures.count (cut_by ps b xs) split c.args.measures.now c.args.row.now.sections c.args.place.section c.section.result gathered.result.length gathered.result.measure c.section.ensures (sym long) (sum_first c.args.measures.now gathered.new.ranks gathered.result.length gathered.result.measure gathered.ensures.measure));
+      count = omega (arith, count-on below (λ j. refl) k s [] blocks c.plan_block-first.ensures.count (cut_by ps b xs) split);
+      visits = omega (arith, c.plan_block-first.ensures.visits, visits-on below (λ j. refl) k s [] blocks c.plan_block-first.ensures.count (cut_by ps b xs) split, last_end ps b xs gathered.new.ranks gathered.result.length gathered.result.end gathered.ensures.first (omega arith));
     }
 
-pub plan-sections-overflow_add-visits : goal.plan-sections-overflow_add-visits
-plan-sections-overflow_add-visits t c =
+pub plan_sections-overflow_add-visits : goal.plan_sections-overflow_add-visits
+plan_sections-overflow_add-visits t c =
     let ps = c.args.priorities.now in
     let b = c.args.place.bounds in
     let xs = c.args.ranks.now in
-    let gathered = c.gather-section-gathered in
+    let gathered = c.gather_section-gathered in
     let s = take (gathered.result.length - 0) gathered.new.ranks in
     let part = first_part ps b xs gathered.new.ranks gathered.result.length gathered.result.end gathered.ensures.first in
     let long = length-first ps b xs gathered.new.ranks gathered.result.length gathered.result.end gathered.ensures.first gathered.auto.ranks in
@@ -155,97 +155,97 @@ plan-sections-overflow_add-visits t c =
     let behind = gathered.ensures.first.behind in
     let few = subtree-few ps c.args.settings.alpha c.args.settings.rho c.requires.settings c.args.place.block c.args.place.next s (apart-first ps b xs s part.0 part.1 c.requires.apart) in
     let bound = subtree-visits ps c.args.settings.alpha c.args.settings.rho c.requires.settings c.args.place.block c.args.place.next s (omega arith) in
-    let first = c.plan-block-first.ensures.visits in
+    let first = c.plan_block-first.ensures.visits in
     omega arith
 
-pub plan-sections-overflow_add-further-2 : goal.plan-sections-overflow_add-further-2
-plan-sections-overflow_add-further-2 t c =
+pub plan_sections-overflow_add-further-2 : goal.plan_sections-overflow_add-further-2
+plan_sections-overflow_add-further-2 t c =
     let ps = c.args.priorities.now in
     let b = c.args.place.bounds in
     let xs = c.args.ranks.now in
-    let gathered = c.gather-section-gathered in
+    let gathered = c.gather_section-gathered in
     let s = take (gathered.result.length - 0) gathered.new.ranks in
     let part = first_part ps b xs gathered.new.ranks gathered.result.length gathered.result.end gathered.ensures.first in
     let left = left-first ps b xs s part.0 part.1 in
-    let count = c.plan-block-first.ensures.count in
+    let count = c.plan_block-first.ensures.count in
     let few = subtree-few ps c.args.settings.alpha c.args.settings.rho c.requires.settings c.args.place.block c.args.place.next s (apart-first ps b xs s part.0 part.1 c.requires.apart) in
     omega arith
 
-pub plan-sections-plan-sections-others-requires : goal.plan-sections-plan-sections-others-requires
-plan-sections-plan-sections-others-requires t c =
+pub plan_sections-plan_sections-others-requires : goal.plan_sections-plan_sections-others-requires
+plan_sections-plan_sections-others-requires t c =
     let ps = c.args.priorities.now in
     let b = c.args.place.bounds in
     let xs = c.args.ranks.now in
-    let gathered = c.gather-section-gathered in
+    let gathered = c.gather_section-gathered in
     let s = take (gathered.result.length - 0) gathered.new.ranks in
-    let rest = rest_of gathered.new.ranks c.plan-block-first.new.ranks gathered.result.length gathered.result.end in
-    let split = more_parts ps b xs gathered.new.ranks gathered.result.length gathered.result.end gathered.ensures.first gathered.auto.ranks c.plan-block-first.new.ranks c.plan-block-first.auto.ranks (λ one. omega arith) in
+    let rest = rest_of gathered.new.ranks c.plan_block-first.new.ranks gathered.result.length gathered.result.end in
+    let split = more_parts ps b xs gathered.new.ranks gathered.result.length gathered.result.end gathered.ensures.first gathered.auto.ranks c.plan_block-first.new.ranks c.plan_block-first.auto.ranks (λ one. omega arith) in
     let left : left_by ps b xs ≡ length s + left_by ps b rest = left-first ps b xs s (cut_by ps b rest) split in
-    let kept = rest-kept ps b xs gathered.new.ranks gathered.result.length gathered.result.end gathered.ensures.first gathered.auto.ranks c.plan-block-first.new.ranks c.plan-block-first.auto.ranks in
+    let kept = rest-kept ps b xs gathered.new.ranks gathered.result.length gathered.result.end gathered.ensures.first gathered.auto.ranks c.plan_block-first.new.ranks c.plan_block-first.auto.ranks in
     let parts : length (cut_by ps b xs) ≡ 1 + length (cut_by ps b rest) = ap length split ∙ omega arith in
-    let count = c.plan-block-first.ensures.count in
+    let count = c.plan_block-first.ensures.count in
     let few = subtree-few ps c.args.settings.alpha c.args.settings.rho c.requires.settings c.args.place.block c.args.place.next s (apart-first ps b xs s (cut_by ps b rest) split c.requires.apart) in
     let falls : 3 * left_by ps b rest + length (cut_by ps b rest) < t = omega arith in
     (falls, (c.requires.settings, (subst Distinct (sym kept) (distinct-drop gathered.result.end xs c.requires.apart), (omega (arith, ap length kept, length-drop gathered.result.end xs), (omega arith, (omega arith, (omega arith, (omega arith, c.requires.places))))))))
 
-pub plan-sections-overflow_add-result : goal.plan-sections-overflow_add-result
-plan-sections-overflow_add-result t c =
+pub plan_sections-overflow_add-result : goal.plan_sections-overflow_add-result
+plan_sections-overflow_add-result t c =
     let ps = c.args.priorities.now in
     let b = c.args.place.bounds in
     let xs = c.args.ranks.now in
     let k = c.args.place.next in
     let below = subtree ps c.args.settings.alpha c.args.settings.rho c.args.place.block in
-    let gathered = c.gather-section-gathered in
-    let blocks = c.plan-block-first.result.blocks in
+    let gathered = c.gather_section-gathered in
+    let blocks = c.plan_block-first.result.blocks in
     let s = take (gathered.result.length - 0) gathered.new.ranks in
-    let rest = rest_of gathered.new.ranks c.plan-block-first.new.ranks gathered.result.length gathered.result.end in
-    let split = more_parts ps b xs gathered.new.ranks gathered.result.length gathered.result.end gathered.ensures.first gathered.auto.ranks c.plan-block-first.new.ranks c.plan-block-first.auto.ranks (λ one. omega arith) in
-    let whole = count-on below (λ j. refl) k s (cut_by ps b rest) blocks c.plan-block-first.ensures.count (cut_by ps b xs) split in
+    let rest = rest_of gathered.new.ranks c.plan_block-first.new.ranks gathered.result.length gathered.result.end in
+    let split = more_parts ps b xs gathered.new.ranks gathered.result.length gathered.result.end gathered.ensures.first gathered.auto.ranks c.plan_block-first.new.ranks c.plan_block-first.auto.ranks (λ one. omega arith) in
+    let whole = count-on below (λ j. refl) k s (cut_by ps b rest) blocks c.plan_block-first.ensures.count (cut_by ps b xs) split in
     let few = forest-few ps c.args.settings.alpha c.args.settings.rho c.requires.settings c.args.place.block k (cut_by ps b xs) (pairwise-cut (separates ps b) (in_block ps b) _ xs c.requires.apart) in
-    let count = c.plan-sections-others.ensures.count in
+    let count = c.plan_sections-others.ensures.count in
     omega arith
 
-pub plan-sections-overflow_add-result-2 : goal.plan-sections-overflow_add-result-2
-plan-sections-overflow_add-result-2 t c =
+pub plan_sections-overflow_add-result-2 : goal.plan_sections-overflow_add-result-2
+plan_sections-overflow_add-result-2 t c =
     let ps = c.args.priorities.now in
     let b = c.args.place.bounds in
     let xs = c.args.ranks.now in
     let k = c.args.place.next in
     let alpha = c.args.settings.alpha in
     let rho = c.args.settings.rho in
-    let gathered = c.gather-section-gathered in
+    let gathered = c.gather_section-gathered in
     let s = take (gathered.result.length - 0) gathered.new.ranks in
-    let rest = rest_of gathered.new.ranks c.plan-block-first.new.ranks gathered.result.length gathered.result.end in
-    let split = more_parts ps b xs gathered.new.ranks gathered.result.length gathered.result.end gathered.ensures.first gathered.auto.ranks c.plan-block-first.new.ranks c.plan-block-first.auto.ranks (λ one. omega arith) in
-    let kept = ap length (rest-kept ps b xs gathered.new.ranks gathered.result.length gathered.result.end gathered.ensures.first gathered.auto.ranks c.plan-block-first.new.ranks c.plan-block-first.auto.ranks) in
+    let rest = rest_of gathered.new.ranks c.plan_block-first.new.ranks gathered.result.length gathered.result.end in
+    let split = more_parts ps b xs gathered.new.ranks gathered.result.length gathered.result.end gathered.ensures.first gathered.auto.ranks c.plan_block-first.new.ranks c.plan_block-first.auto.ranks (λ one. omega arith) in
+    let kept = ap length (rest-kept ps b xs gathered.new.ranks gathered.result.length gathered.result.end gathered.ensures.first gathered.auto.ranks c.plan_block-first.new.ranks c.plan_block-first.auto.ranks) in
     let left = length-drop gathered.result.end xs in
     let within = gathered.ensures.first.within in
-    let whole = visits-on (subtree ps alpha rho c.args.place.block) (λ j. refl) k s (cut_by ps b rest) c.plan-block-first.result.blocks c.plan-block-first.ensures.count (cut_by ps b xs) split in
+    let whole = visits-on (subtree ps alpha rho c.args.place.block) (λ j. refl) k s (cut_by ps b rest) c.plan_block-first.result.blocks c.plan_block-first.ensures.count (cut_by ps b xs) split in
     let few = forest-few ps alpha rho c.requires.settings c.args.place.block k (cut_by ps b xs) (pairwise-cut (separates ps b) (in_block ps b) _ xs c.requires.apart) in
     let bound = forest-visits ps alpha rho c.requires.settings c.args.place.block k (cut_by ps b xs) (omega arith) in
-    let first = c.plan-block-first.ensures.visits in
-    let others = c.plan-sections-others.ensures.visits in
+    let first = c.plan_block-first.ensures.visits in
+    let others = c.plan_sections-others.ensures.visits in
     omega arith
 
-pub plan-sections-returns : goal.plan-sections-returns
-plan-sections-returns t c =
+pub plan_sections-returns : goal.plan_sections-returns
+plan_sections-returns t c =
     let ps = c.args.priorities.now in
     let b = c.args.place.bounds in
     let xs = c.args.ranks.now in
     let k = c.args.place.next in
     let below = subtree ps c.args.settings.alpha c.args.settings.rho c.args.place.block in
-    let gathered = c.gather-section-gathered in
-    let blocks = c.plan-block-first.result.blocks in
+    let gathered = c.gather_section-gathered in
+    let blocks = c.plan_block-first.result.blocks in
     let s = take (gathered.result.length - 0) gathered.new.ranks in
-    let rest = rest_of gathered.new.ranks c.plan-block-first.new.ranks gathered.result.length gathered.result.end in
-    let split = more_parts ps b xs gathered.new.ranks gathered.result.length gathered.result.end gathered.ensures.first gathered.auto.ranks c.plan-block-first.new.ranks c.plan-block-first.auto.ranks (λ one. omega arith) in
+    let rest = rest_of gathered.new.ranks c.plan_block-first.new.ranks gathered.result.length gathered.result.end in
+    let split = more_parts ps b xs gathered.new.ranks gathered.result.length gathered.result.end gathered.ensures.first gathered.auto.ranks c.plan_block-first.new.ranks c.plan_block-first.auto.ranks (λ one. omega arith) in
     let long = length-first ps b xs gathered.new.ranks gathered.result.length gathered.result.end gathered.ensures.first gathered.auto.ranks in
-    let kept = rest-kept ps b xs gathered.new.ranks gathered.result.length gathered.result.end gathered.ensures.first gathered.auto.ranks c.plan-block-first.new.ranks c.plan-block-first.auto.ranks in
+    let kept = rest-kept ps b xs gathered.new.ranks gathered.result.length gathered.result.end gathered.ensures.first gathered.auto.ranks c.plan_block-first.new.ranks c.plan_block-first.auto.ranks in
     record {
-      rows = rows_on below (λ j. refl) k s (cut_by ps b rest) blocks c.plan-block-first.ensures.count (cut_by ps b xs) split c.args.measures.now c.args.table.now c.plan-block-first.new.table c.plan-sections-others.new.table c.requires.first c.plan-block-first.ensures.rows c.plan-sections-others.ensures.rows;
+      rows = rows_on below (λ j. refl) k s (cut_by ps b rest) blocks c.plan_block-first.ensures.count (cut_by ps b xs) split c.args.measures.now c.args.table.now c.plan_block-first.new.table c.plan_sections-others.new.table c.requires.first c.plan_block-first.ensures.rows c.plan_sections-others.ensures.rows;
       noted =
-          c.plan-sections-others.ensures.noted
-          ∙ ap (with_sections c.args.row.now) (noted-on below (λ j. refl) k s (cut_by ps b rest) blocks c.plan-block-first.ensures.count (cut_by ps b xs) split c.args.measures.now c.args.row.now.sections c.args.place.section c.section.result gathered.result.length gathered.result.measure c.section.ensures (sym long) (sum_first c.args.measures.now gathered.new.ranks gathered.result.length gathered.result.measure gathered.ensures.measure));
-      count = omega (arith, count-on below (λ j. refl) k s (cut_by ps b rest) blocks c.plan-block-first.ensures.count (cut_by ps b xs) split, c.plan-sections-others.ensures.count);
-      visits = omega (arith, c.plan-block-first.ensures.visits, c.plan-sections-others.ensures.visits, visits-on below (λ j. refl) k s (cut_by ps b rest) blocks c.plan-block-first.ensures.count (cut_by ps b xs) split, ap length kept, length-drop gathered.result.end xs, gathered.ensures.first.within);
+          c.plan_sections-others.ensures.noted
+          ∙ ap (with_sections c.args.row.now) (noted-on below (λ j. refl) k s (cut_by ps b rest) blocks c.plan_block-first.ensures.count (cut_by ps b xs) split c.args.measures.now c.args.row.now.sections c.args.place.section c.section.result gathered.result.length gathered.result.measure c.section.ensures (sym long) (sum_first c.args.measures.now gathered.new.ranks gathered.result.length gathered.result.measure gathered.ensures.measure));
+      count = omega (arith, count-on below (λ j. refl) k s (cut_by ps b rest) blocks c.plan_block-first.ensures.count (cut_by ps b xs) split, c.plan_sections-others.ensures.count);
+      visits = omega (arith, c.plan_block-first.ensures.visits, c.plan_sections-others.ensures.visits, visits-on below (λ j. refl) k s (cut_by ps b rest) blocks c.plan_block-first.ensures.count (cut_by ps b xs) split, ap length kept, length-drop gathered.result.end xs, gathered.ensures.first.within);
     }

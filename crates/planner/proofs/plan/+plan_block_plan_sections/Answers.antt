@@ -14,18 +14,18 @@ use Rattle.planner.proofs.Apart.{distinct-drop}
 use Rattle.planner.proofs.Planning.{forest-few, divided, root-row, subtree-parts, root-placed, subtree-few}
 use Rattle.planner.proofs.Sectioning.{some-part, left-first, apart-first, first_part, last-part, more_parts, length-first, rest_of, rest-kept, rows_on, noted-on, count-on}
 use Rattle.planner.proofs.plan.+plan_block_plan_sections.Goals as goal
-use Rattle.planner.proofs.plan.+plan_block_plan_sections.Goals.{plan-sections-then-length-eq0, plan-sections-else-length-eq0}
+use Rattle.planner.proofs.plan.+plan_block_plan_sections.Goals.{plan_sections-then-length-eq0, plan_sections-else-length-eq0}
 
-pub plan-block-begin-row-row-requires : goal.plan-block-begin-row-row-requires
-plan-block-begin-row-row-requires t c =
+pub plan_block-begin_row-row-requires : goal.plan_block-begin_row-row-requires
+plan_block-begin_row-row-requires t c =
     let some : 0 < length c.args.ranks.now = omega arith in
     record {
       fits = omega (arith, (divided c.args.priorities.now c.args.settings.alpha c.args.settings.rho c.requires.settings c.of-bounds.result c.args.ranks.now some c.requires.apart c.of-bounds.ensures.block c.of-bounds.ensures.active).held);
       few = omega arith;
     }
 
-pub plan-block-plan-sections-beneath-requires : goal.plan-block-plan-sections-beneath-requires
-plan-block-plan-sections-beneath-requires t c =
+pub plan_block-plan_sections-beneath-requires : goal.plan_block-plan_sections-beneath-requires
+plan_block-plan_sections-beneath-requires t c =
     let ps = c.args.priorities.now in
     let alpha = c.args.settings.alpha in
     let rho = c.args.settings.rho in
@@ -39,10 +39,10 @@ plan-block-plan-sections-beneath-requires t c =
     let parts = known.parts in
     let less = known.falls in
     let falls : 3 * left_by ps b xs + length (cut_by ps b xs) < t = omega arith in
-    (falls, (c.requires.settings, (c.requires.apart, (omega arith, (omega arith, (omega arith, (rw c.begin-row-row.ensures (omega arith), rw c.begin-row-row.ensures (omega arith))))))))
+    (falls, (c.requires.settings, (c.requires.apart, (omega arith, (omega arith, (omega arith, (rw c.begin_row-row.ensures (omega arith), rw c.begin_row-row.ensures (omega arith))))))))
 
-pub plan-block-overflow_add-result : goal.plan-block-overflow_add-result
-plan-block-overflow_add-result t c =
+pub plan_block-overflow_add-result : goal.plan_block-overflow_add-result
+plan_block-overflow_add-result t c =
     let ps = c.args.priorities.now in
     let alpha = c.args.settings.alpha in
     let rho = c.args.settings.rho in
@@ -50,11 +50,11 @@ plan-block-overflow_add-result t c =
     let some : 0 < length xs = omega arith in
     let few = subtree-few ps alpha rho c.requires.settings c.args.parent c.args.number xs c.requires.apart in
     let whole = ap length (subtree-parts ps alpha rho c.requires.settings c.of-bounds.result xs some c.requires.apart c.of-bounds.ensures.block c.of-bounds.ensures.active c.args.parent c.args.number) in
-    let beneath = c.plan-sections-beneath.ensures.count in
+    let beneath = c.plan_sections-beneath.ensures.count in
     omega arith
 
-pub plan-block-returns : goal.plan-block-returns
-plan-block-returns t c =
+pub plan_block-returns : goal.plan_block-returns
+plan_block-returns t c =
     let ps = c.args.priorities.now in
     let alpha = c.args.settings.alpha in
     let rho = c.args.settings.rho in
@@ -62,27 +62,27 @@ plan-block-returns t c =
     let b = c.of-bounds.result in
     let parent = c.args.parent in
     let k = c.args.number in
-    let last = c.plan-sections-beneath.new in
+    let last = c.plan_sections-beneath.new in
     let some : 0 < length xs = omega arith in
     let noted : last.row ≡ row_of (root_node (rank_before ps) alpha rho (subtree ps alpha rho k) parent k xs) =
-    c.plan-sections-beneath.ensures.noted
-    ∙ ap (λ row. with_sections row (sets row.sections 0 (map section_row (numbered (subtree ps alpha rho k) (k + 1) (cut_by ps b xs))))) c.begin-row-row.ensures
+    c.plan_sections-beneath.ensures.noted
+    ∙ ap (λ row. with_sections row (sets row.sections 0 (map section_row (numbered (subtree ps alpha rho k) (k + 1) (cut_by ps b xs))))) c.begin_row-row.ensures
     ∙ root-row ps alpha rho c.requires.settings b xs some c.requires.apart c.of-bounds.ensures.block c.of-bounds.ensures.active parent k in
     let whole = ap length (subtree-parts ps alpha rho c.requires.settings b xs some c.requires.apart c.of-bounds.ensures.block c.of-bounds.ensures.active parent k) in
-    let beneath = c.plan-sections-beneath.ensures.count in
+    let beneath = c.plan_sections-beneath.ensures.count in
     record {
       rows =
-          ap (λ table. set table (k - 1) last.row) c.plan-sections-beneath.ensures.rows
+          ap (λ table. set table (k - 1) last.row) c.plan_sections-beneath.ensures.rows
           ∙ root-placed ps alpha rho c.requires.settings b xs some c.requires.apart c.of-bounds.ensures.block c.of-bounds.ensures.active parent k c.args.table.now last.row c.requires.first noted;
       count = omega arith;
     }
 
-pub plan-sections-plan-block-count-requires : goal.plan-sections-plan-block-count-requires
-plan-sections-plan-block-count-requires t c =
+pub plan_sections-plan_block-count-requires : goal.plan_sections-plan_block-count-requires
+plan_sections-plan_block-count-requires t c =
     let ps = c.args.priorities.now in
     let b = c.args.bounds in
     let xs = c.args.ranks.now in
-    let gathered = c.gather-section-gathered in
+    let gathered = c.gather_section-gathered in
     let part = first_part ps b xs gathered.new.ranks gathered.result.length gathered.result.end gathered.ensures in
     let long = length-first ps b xs gathered.new.ranks gathered.result.length gathered.result.end gathered.ensures gathered.auto.ranks in
     let left = left-first ps b xs _ part.0 part.1 in
@@ -90,110 +90,110 @@ plan-sections-plan-block-count-requires t c =
     let falls : 3 * length (take (gathered.result.length - 0) gathered.new.ranks) < t = omega arith in
     (falls, (c.requires.settings, (apart-first ps b xs _ part.0 part.1 c.requires.apart, (c.requires.first, (omega arith, omega arith)))))
 
-pub plan-sections-overflow_cast-row : goal.plan-sections-overflow_cast-row
-plan-sections-overflow_cast-row t c =
-    let gathered = c.gather-section-gathered in
+pub plan_sections-overflow_cast-row : goal.plan_sections-overflow_cast-row
+plan_sections-overflow_cast-row t c =
+    let gathered = c.gather_section-gathered in
     let part = first_part c.args.priorities.now c.args.bounds c.args.ranks.now gathered.new.ranks gathered.result.length gathered.result.end gathered.ensures in
     let long = length-first c.args.priorities.now c.args.bounds c.args.ranks.now gathered.new.ranks gathered.result.length gathered.result.end gathered.ensures gathered.auto.ranks in
     let left = left-first c.args.priorities.now c.args.bounds c.args.ranks.now _ part.0 part.1 in
     omega arith
 
-pub plan-sections-offset_bounds-row-place : goal.plan-sections-offset_bounds-row-place
-plan-sections-offset_bounds-row-place t c = omega (arith, some-part c.args.priorities.now c.args.bounds c.args.ranks.now)
+pub plan_sections-offset_bounds-row-place : goal.plan_sections-offset_bounds-row-place
+plan_sections-offset_bounds-row-place t c = omega (arith, some-part c.args.priorities.now c.args.bounds c.args.ranks.now)
 
-pub plan-sections-bounds-row-place : goal.plan-sections-bounds-row-place
-plan-sections-bounds-row-place t c = omega (arith, some-part c.args.priorities.now c.args.bounds c.args.ranks.now)
+pub plan_sections-bounds-row-place : goal.plan_sections-bounds-row-place
+plan_sections-bounds-row-place t c = omega (arith, some-part c.args.priorities.now c.args.bounds c.args.ranks.now)
 
-pub plan-sections-returns-then-place-separators : goal.plan-sections-returns-then-place-separators
-plan-sections-returns-then-place-separators t c =
+pub plan_sections-returns-then-place-separators : goal.plan_sections-returns-then-place-separators
+plan_sections-returns-then-place-separators t c =
     let ps = c.args.priorities.now in
     let b = c.args.bounds in
     let xs = c.args.ranks.now in
     let k = c.args.place.next in
     let below = subtree ps c.args.settings.alpha c.args.settings.rho c.args.place.block in
-    let gathered = c.gather-section-gathered in
-    let blocks = c.plan-block-count.result in
+    let gathered = c.gather_section-gathered in
+    let blocks = c.plan_block-count.result in
     let s = take (gathered.result.length - 0) gathered.new.ranks in
     let split = last-part ps b xs gathered.new.ranks gathered.result.length gathered.result.end gathered.ensures (omega arith) in
     let long = length-first ps b xs gathered.new.ranks gathered.result.length gathered.result.end gathered.ensures gathered.auto.ranks in
     let empty : gathered.result.length ≡ 0 → c.if-length-eq0.block ≡ 0 =
-    λ e. elim c.if-length-eq0.branch [ plan-sections-then-length-eq0 w ↦ w.block-is | plan-sections-else-length-eq0 w ↦ absurd (w.if-length-eq0.false e) ] in
+    λ e. elim c.if-length-eq0.branch [ plan_sections-then-length-eq0 w ↦ w.block-is | plan_sections-else-length-eq0 w ↦ absurd (w.if-length-eq0.false e) ] in
     let other : (gathered.result.length ≡ 0 → ⊥) → c.if-length-eq0.block ≡ k =
-    λ n. elim c.if-length-eq0.branch [ plan-sections-then-length-eq0 w ↦ absurd (n w.if-length-eq0.true) | plan-sections-else-length-eq0 w ↦ w.block-is ] in
+    λ n. elim c.if-length-eq0.branch [ plan_sections-then-length-eq0 w ↦ absurd (n w.if-length-eq0.true) | plan_sections-else-length-eq0 w ↦ w.block-is ] in
     record {
-      rows = rows_on below (λ j. refl) k s [] blocks c.plan-block-count.ensures.count (cut_by ps b xs) split c.args.table.now c.plan-block-count.new.table c.plan-block-count.new.table c.requires.first c.plan-block-count.ensures.rows refl;
-      noted = ap (with_sections c.args.row.now) (noted-on below (λ j. refl) k s [] blocks c.plan-block-count.ensures.count (cut_by ps b xs) split c.args.row.now.sections c.args.place.section c.if-length-eq0.block gathered.result.length (sym long) empty other);
-      count = omega (arith, count-on below (λ j. refl) k s [] blocks c.plan-block-count.ensures.count (cut_by ps b xs) split);
+      rows = rows_on below (λ j. refl) k s [] blocks c.plan_block-count.ensures.count (cut_by ps b xs) split c.args.table.now c.plan_block-count.new.table c.plan_block-count.new.table c.requires.first c.plan_block-count.ensures.rows refl;
+      noted = ap (with_sections c.args.row.now) (noted-on below (λ j. refl) k s [] blocks c.plan_block-count.ensures.count (cut_by ps b xs) split c.args.row.now.sections c.args.place.section c.if-length-eq0.block gathered.result.length (sym long) empty other);
+      count = omega (arith, count-on below (λ j. refl) k s [] blocks c.plan_block-count.ensures.count (cut_by ps b xs) split);
     }
 
-pub plan-sections-overflow_add-further-2 : goal.plan-sections-overflow_add-further-2
-plan-sections-overflow_add-further-2 t c =
+pub plan_sections-overflow_add-further-2 : goal.plan_sections-overflow_add-further-2
+plan_sections-overflow_add-further-2 t c =
     let ps = c.args.priorities.now in
     let b = c.args.bounds in
     let xs = c.args.ranks.now in
-    let gathered = c.gather-section-gathered in
+    let gathered = c.gather_section-gathered in
     let s = take (gathered.result.length - 0) gathered.new.ranks in
     let part = first_part ps b xs gathered.new.ranks gathered.result.length gathered.result.end gathered.ensures in
     let left = left-first ps b xs s part.0 part.1 in
-    let count = c.plan-block-count.ensures.count in
+    let count = c.plan_block-count.ensures.count in
     let few = subtree-few ps c.args.settings.alpha c.args.settings.rho c.requires.settings c.args.place.block c.args.place.next s (apart-first ps b xs s part.0 part.1 c.requires.apart) in
     omega arith
 
-pub plan-sections-plan-sections-requires : goal.plan-sections-plan-sections-requires
-plan-sections-plan-sections-requires t c =
+pub plan_sections-plan_sections-requires : goal.plan_sections-plan_sections-requires
+plan_sections-plan_sections-requires t c =
     let ps = c.args.priorities.now in
     let b = c.args.bounds in
     let xs = c.args.ranks.now in
-    let gathered = c.gather-section-gathered in
+    let gathered = c.gather_section-gathered in
     let s = take (gathered.result.length - 0) gathered.new.ranks in
-    let rest = rest_of gathered.new.ranks c.plan-block-count.new.ranks gathered.result.length gathered.result.end in
-    let split = more_parts ps b xs gathered.new.ranks gathered.result.length gathered.result.end gathered.ensures gathered.auto.ranks c.plan-block-count.new.ranks c.plan-block-count.auto.ranks (λ one. omega arith) in
+    let rest = rest_of gathered.new.ranks c.plan_block-count.new.ranks gathered.result.length gathered.result.end in
+    let split = more_parts ps b xs gathered.new.ranks gathered.result.length gathered.result.end gathered.ensures gathered.auto.ranks c.plan_block-count.new.ranks c.plan_block-count.auto.ranks (λ one. omega arith) in
     let left : left_by ps b xs ≡ length s + left_by ps b rest = left-first ps b xs s (cut_by ps b rest) split in
-    let kept = rest-kept ps b xs gathered.new.ranks gathered.result.length gathered.result.end gathered.ensures gathered.auto.ranks c.plan-block-count.new.ranks c.plan-block-count.auto.ranks in
+    let kept = rest-kept ps b xs gathered.new.ranks gathered.result.length gathered.result.end gathered.ensures gathered.auto.ranks c.plan_block-count.new.ranks c.plan_block-count.auto.ranks in
     let parts : length (cut_by ps b xs) ≡ 1 + length (cut_by ps b rest) = ap length split ∙ omega arith in
-    let count = c.plan-block-count.ensures.count in
+    let count = c.plan_block-count.ensures.count in
     let few = subtree-few ps c.args.settings.alpha c.args.settings.rho c.requires.settings c.args.place.block c.args.place.next s (apart-first ps b xs s (cut_by ps b rest) split c.requires.apart) in
     let falls : 3 * left_by ps b rest + length (cut_by ps b rest) < t = omega arith in
     (falls, (c.requires.settings, (subst Distinct (sym kept) (distinct-drop gathered.result.end xs c.requires.apart), (omega arith, (omega arith, (omega arith, (omega arith, c.requires.places)))))))
 
-pub plan-sections-overflow_add-result : goal.plan-sections-overflow_add-result
-plan-sections-overflow_add-result t c =
+pub plan_sections-overflow_add-result : goal.plan_sections-overflow_add-result
+plan_sections-overflow_add-result t c =
     let ps = c.args.priorities.now in
     let b = c.args.bounds in
     let xs = c.args.ranks.now in
     let k = c.args.place.next in
     let below = subtree ps c.args.settings.alpha c.args.settings.rho c.args.place.block in
-    let gathered = c.gather-section-gathered in
-    let blocks = c.plan-block-count.result in
+    let gathered = c.gather_section-gathered in
+    let blocks = c.plan_block-count.result in
     let s = take (gathered.result.length - 0) gathered.new.ranks in
-    let rest = rest_of gathered.new.ranks c.plan-block-count.new.ranks gathered.result.length gathered.result.end in
-    let split = more_parts ps b xs gathered.new.ranks gathered.result.length gathered.result.end gathered.ensures gathered.auto.ranks c.plan-block-count.new.ranks c.plan-block-count.auto.ranks (λ one. omega arith) in
-    let whole = count-on below (λ j. refl) k s (cut_by ps b rest) blocks c.plan-block-count.ensures.count (cut_by ps b xs) split in
+    let rest = rest_of gathered.new.ranks c.plan_block-count.new.ranks gathered.result.length gathered.result.end in
+    let split = more_parts ps b xs gathered.new.ranks gathered.result.length gathered.result.end gathered.ensures gathered.auto.ranks c.plan_block-count.new.ranks c.plan_block-count.auto.ranks (λ one. omega arith) in
+    let whole = count-on below (λ j. refl) k s (cut_by ps b rest) blocks c.plan_block-count.ensures.count (cut_by ps b xs) split in
     let few = forest-few ps c.args.settings.alpha c.args.settings.rho c.requires.settings c.args.place.block k (cut_by ps b xs) (distinct-cut (separates ps b) (in_block ps b) xs c.requires.apart) in
-    let count = c.plan-sections.ensures.count in
+    let count = c.plan_sections.ensures.count in
     omega arith
 
-pub plan-sections-returns : goal.plan-sections-returns
-plan-sections-returns t c =
+pub plan_sections-returns : goal.plan_sections-returns
+plan_sections-returns t c =
     let ps = c.args.priorities.now in
     let b = c.args.bounds in
     let xs = c.args.ranks.now in
     let k = c.args.place.next in
     let below = subtree ps c.args.settings.alpha c.args.settings.rho c.args.place.block in
-    let gathered = c.gather-section-gathered in
-    let blocks = c.plan-block-count.result in
+    let gathered = c.gather_section-gathered in
+    let blocks = c.plan_block-count.result in
     let s = take (gathered.result.length - 0) gathered.new.ranks in
-    let rest = rest_of gathered.new.ranks c.plan-block-count.new.ranks gathered.result.length gathered.result.end in
-    let split = more_parts ps b xs gathered.new.ranks gathered.result.length gathered.result.end gathered.ensures gathered.auto.ranks c.plan-block-count.new.ranks c.plan-block-count.auto.ranks (λ one. omega arith) in
+    let rest = rest_of gathered.new.ranks c.plan_block-count.new.ranks gathered.result.length gathered.result.end in
+    let split = more_parts ps b xs gathered.new.ranks gathered.result.length gathered.result.end gathered.ensures gathered.auto.ranks c.plan_block-count.new.ranks c.plan_block-count.auto.ranks (λ one. omega arith) in
     let long = length-first ps b xs gathered.new.ranks gathered.result.length gathered.result.end gathered.ensures gathered.auto.ranks in
     let empty : gathered.result.length ≡ 0 → c.if-length-eq0.block ≡ 0 =
-    λ e. elim c.if-length-eq0.branch [ plan-sections-then-length-eq0 w ↦ w.block-is | plan-sections-else-length-eq0 w ↦ absurd (w.if-length-eq0.false e) ] in
+    λ e. elim c.if-length-eq0.branch [ plan_sections-then-length-eq0 w ↦ w.block-is | plan_sections-else-length-eq0 w ↦ absurd (w.if-length-eq0.false e) ] in
     let other : (gathered.result.length ≡ 0 → ⊥) → c.if-length-eq0.block ≡ k =
-    λ n. elim c.if-length-eq0.branch [ plan-sections-then-length-eq0 w ↦ absurd (n w.if-length-eq0.true) | plan-sections-else-length-eq0 w ↦ w.block-is ] in
+    λ n. elim c.if-length-eq0.branch [ plan_sections-then-length-eq0 w ↦ absurd (n w.if-length-eq0.true) | plan_sections-else-length-eq0 w ↦ w.block-is ] in
     record {
-      rows = rows_on below (λ j. refl) k s (cut_by ps b rest) blocks c.plan-block-count.ensures.count (cut_by ps b xs) split c.args.table.now c.plan-block-count.new.table c.plan-sections.new.table c.requires.first c.plan-block-count.ensures.rows c.plan-sections.ensures.rows;
+      rows = rows_on below (λ j. refl) k s (cut_by ps b rest) blocks c.plan_block-count.ensures.count (cut_by ps b xs) split c.args.table.now c.plan_block-count.new.table c.plan_sections.new.table c.requires.first c.plan_block-count.ensures.rows c.plan_sections.ensures.rows;
       noted =
-          c.plan-sections.ensures.noted
-          ∙ ap (with_sections c.args.row.now) (noted-on below (λ j. refl) k s (cut_by ps b rest) blocks c.plan-block-count.ensures.count (cut_by ps b xs) split c.args.row.now.sections c.args.place.section c.if-length-eq0.block gathered.result.length (sym long) empty other);
-      count = omega (arith, count-on below (λ j. refl) k s (cut_by ps b rest) blocks c.plan-block-count.ensures.count (cut_by ps b xs) split, c.plan-sections.ensures.count);
+          c.plan_sections.ensures.noted
+          ∙ ap (with_sections c.args.row.now) (noted-on below (λ j. refl) k s (cut_by ps b rest) blocks c.plan_block-count.ensures.count (cut_by ps b xs) split c.args.row.now.sections c.args.place.section c.if-length-eq0.block gathered.result.length (sym long) empty other);
+      count = omega (arith, count-on below (λ j. refl) k s (cut_by ps b rest) blocks c.plan_block-count.ensures.count (cut_by ps b xs) split, c.plan_sections.ensures.count);
     }

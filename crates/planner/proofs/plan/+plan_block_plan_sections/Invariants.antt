@@ -3,8 +3,8 @@ use Rattle.std.proofs.Common.{◌+◌, ◌*◌, length}
 use Rattle.planner.specs.Steps.{cut_by, left_by}
 use Rattle.planner.proofs.plan.+plan_block_plan_sections.Given as goal
 
-abbrev pub decreases-plan-block : goal.decreases-plan-block
-decreases-plan-block l = 3 * length l.ranks.now
+abbrev pub decreases-plan_block : goal.decreases-plan_block
+decreases-plan_block l = 3 * length l.ranks.now
 
-abbrev pub decreases-plan-sections : goal.decreases-plan-sections
-decreases-plan-sections l = 3 * left_by l.priorities.now l.bounds l.ranks.now + length (cut_by l.priorities.now l.bounds l.ranks.now)
+abbrev pub decreases-plan_sections : goal.decreases-plan_sections
+decreases-plan_sections l = 3 * left_by l.priorities.now l.bounds l.ranks.now + length (cut_by l.priorities.now l.bounds l.ranks.now)
