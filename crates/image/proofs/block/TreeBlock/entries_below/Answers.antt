@@ -10,7 +10,7 @@ overflow_add-sum g c = omega (arith, c.loop-i.invariant.few, c.entries-i-end.ens
 
 pub loop-i-preserved : goal.loop-i-preserved
 loop-i-preserved g c =
-    summing-more c.loop-i.invariant c.from-sum.result (omega (arith, c.entries-i-end.ensures.count)) (c.from-sum.ensures ∙ c.measure-if-below.ensures) (λ rest. refl) (omega arith)
+    summing-more c.loop-i.invariant c.from-sum.result (omega (arith, c.entries-i-end.ensures.count)) (c.from-sum.ensures ∙ c.measure_if_below.ensures) (λ rest. refl) (omega arith)
 
 pub returns : goal.returns
 returns g c =

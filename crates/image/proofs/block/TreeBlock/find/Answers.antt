@@ -9,20 +9,20 @@ loop-i-init g c = record { is = refl }
 pub loop-i-preserved : goal.loop-i-preserved
 loop-i-preserved g c =
     let kind = g.K.EntryKind.kind in
-    let key = ap (key_of kind) (sym c.slot-message.ensures) ∙ sym c.key-of.ensures in
+    let key = ap (key_of kind) (sym c.slot-message.ensures) ∙ sym c.key_of.ensures in
     sought-more c.loop-i.invariant (omega (arith, c.entries-i-end.ensures.count)) (ap (λ k. kind.key_order k c.args.key.now) key ∙ sym c.in-Less.ensures)
 
 pub returns-in-Equal : goal.returns-in-Equal
 returns-in-Equal g c =
     let kind = g.K.EntryKind.kind in
-    let key = ap (key_of kind) (sym c.slot-message.ensures) ∙ sym c.key-of.ensures in
+    let key = ap (key_of kind) (sym c.slot-message.ensures) ∙ sym c.key_of.ensures in
     ap Some c.slot-message.ensures
     ∙ sought-here c.loop-i.invariant (omega (arith, c.entries-i-end.ensures.count)) (ap (λ k. kind.key_order k c.args.key.now) key ∙ sym c.in-Equal.ensures)
 
 pub returns-in-Greater : goal.returns-in-Greater
 returns-in-Greater g c =
     let kind = g.K.EntryKind.kind in
-    let key = ap (key_of kind) (sym c.slot-message.ensures) ∙ sym c.key-of.ensures in
+    let key = ap (key_of kind) (sym c.slot-message.ensures) ∙ sym c.key_of.ensures in
     sought-past c.loop-i.invariant (omega (arith, c.entries-i-end.ensures.count)) (ap (λ k. kind.key_order k c.args.key.now) key ∙ sym c.in-Greater.ensures)
 
 pub returns : goal.returns

@@ -6,15 +6,15 @@ use Rattle.image.proofs.block.TreeBlock.keys_rise.Goals as goal
 pub loop-i-init : goal.loop-i-init
 loop-i-init g c = rises-first _ _ _ _ c.slot-last.ensures
 
-pub returns-then-not-is-lt : goal.returns-then-not-is-lt
-returns-then-not-is-lt g c =
-    let order = ap₂ g.K.EntryKind.kind.key_order (sym c.key-of.ensures) (sym c.key-of-in-loop-i.ensures) ∙ sym c.compare-keys.ensures in
-    rises-not _ _ _ c.loop-i.invariant (omega (arith, c.entries-i-end.ensures.count)) _ c.slot-next.ensures (ap is_lt order ∙ sym c.if-not-is-lt.ensures)
+pub returns-then-not-is_lt : goal.returns-then-not-is_lt
+returns-then-not-is_lt g c =
+    let order = ap₂ g.K.EntryKind.kind.key_order (sym c.key_of.ensures) (sym c.key_of-in-loop-i.ensures) ∙ sym c.compare_keys.ensures in
+    rises-not _ _ _ c.loop-i.invariant (omega (arith, c.entries-i-end.ensures.count)) _ c.slot-next.ensures (ap is_lt order ∙ sym c.if-not-is_lt.ensures)
 
 pub loop-i-preserved : goal.loop-i-preserved
 loop-i-preserved g c =
-    let order = ap₂ g.K.EntryKind.kind.key_order (sym c.key-of.ensures) (sym c.key-of-in-loop-i.ensures) ∙ sym c.compare-keys.ensures in
-    rises-more _ _ _ c.loop-i.invariant (omega (arith, c.entries-i-end.ensures.count)) _ c.slot-next.ensures (ap is_lt order ∙ sym c.if-not-is-lt.ensures)
+    let order = ap₂ g.K.EntryKind.kind.key_order (sym c.key_of.ensures) (sym c.key_of-in-loop-i.ensures) ∙ sym c.compare_keys.ensures in
+    rises-more _ _ _ c.loop-i.invariant (omega (arith, c.entries-i-end.ensures.count)) _ c.slot-next.ensures (ap is_lt order ∙ sym c.if-not-is_lt.ensures)
 
 pub returns : goal.returns
 returns g c = rises-all _ _ _ c.loop-i.invariant (omega (arith, c.entries-i-end.ensures.count))

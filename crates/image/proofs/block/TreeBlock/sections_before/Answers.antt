@@ -20,15 +20,15 @@ loop-i-init g c =
     }
 
 pub overflow_add-sum : goal.overflow_add-sum
-overflow_add-sum g c = omega (arith, c.loop-i.invariant.few, c.section-count.ensures.few)
+overflow_add-sum g c = omega (arith, c.loop-i.invariant.few, c.section_count.ensures.few)
 
 pub loop-i-preserved : goal.loop-i-preserved
 loop-i-preserved g c =
-    summing-more c.loop-i.invariant c.from-sum.result (omega (arith, c.section-count.ensures.count)) (c.from-sum.ensures ∙ ap (λ s. s.measure) c.section.ensures) (sum_by-cons (λ s. s.measure) (section_at g.K.EntryKind.kind (alpha_of c.args.self.now) (bytes_of c.args.self.now) c.loop-i.i)) (omega arith)
+    summing-more c.loop-i.invariant c.from-sum.result (omega (arith, c.section_count.ensures.count)) (c.from-sum.ensures ∙ ap (λ s. s.measure) c.section.ensures) (sum_by-cons (λ s. s.measure) (section_at g.K.EntryKind.kind (alpha_of c.args.self.now) (bytes_of c.args.self.now) c.loop-i.i)) (omega arith)
 
 pub returns : goal.returns
 returns g c =
     record {
-      value = summing-all c.loop-i.invariant (omega (arith, c.section-count.ensures.count)) refl;
-      few = omega (arith, c.loop-i.invariant.few, c.section-count.ensures.few);
+      value = summing-all c.loop-i.invariant (omega (arith, c.section_count.ensures.count)) refl;
+      few = omega (arith, c.loop-i.invariant.few, c.section_count.ensures.few);
     }

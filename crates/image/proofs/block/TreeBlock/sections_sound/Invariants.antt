@@ -8,5 +8,5 @@ invariant-loop-i g l =
     let kind = g.K.EntryKind.kind in
     let bytes = bytes_of l.self in
     let alpha = alpha_of l.self in
-    let sound = section_sound l.tree-blocks l.number in
+    let sound = section_sound l.tree_blocks l.number in
     Passed sound (section_at kind alpha bytes) (section_count bytes) l.i (every sound (sections_of kind alpha bytes))
