@@ -25,11 +25,11 @@ ranked n ys work h is = is ∙ ap (range_with_len 0) (front_long n work h)
 ranks-are : (n : ℕ) (ys work : List ℕ) → n ≤ length work → ys ≡ range_with_len 0 (length (take (n - 0) work)) → take (n - 0) (ys ++ post_of 0 (n - 0) work) ≡ range_with_len 0 n
 ranks-are n ys work h is = front-written n ys work (ap length (ranked n ys work h is) ∙ length-range_with_len 0 n) ∙ ranked n ys work h is
 
-pub plan-block-extent-requires : goal.plan-block-extent-requires
-plan-block-extent-requires c =
+pub plan_block-extent-requires : goal.plan_block-extent-requires
+plan_block-extent-requires c =
     let n = length c.args.priorities.now in
-    let fits = plannable-fits n c.args.alpha c.args.rho (length c.args.work.now) (length c.args.table.now) (sym c.if-not-can-plan.ensures) in
-    let ranks = ranks-are n c.count-up.new.ranks c.args.work.now fits.places-enough c.count-up.ensures in
+    let fits = plannable-fits n c.args.alpha c.args.rho (length c.args.work.now) (length c.args.table.now) (sym c.if-not-can_plan.ensures) in
+    let ranks = ranks-are n c.count_up.new.ranks c.args.work.now fits.places-enough c.count_up.ensures in
     let long = ap length ranks ∙ length-range_with_len 0 n in
     record {
       settings = fits.settings;
@@ -48,23 +48,23 @@ returns c =
     let n = length ps in
     let work = c.args.work.now in
     let table = c.args.table.now in
-    let can = sym c.if-not-can-plan.ensures in
+    let can = sym c.if-not-can_plan.ensures in
     let fits = plannable-fits n alpha rho (length work) (length table) can in
-    let ranks = ranks-are n c.count-up.new.ranks work fits.places-enough c.count-up.ensures in
-    let listed : length c.count-up.new.ranks ≡ n = ap length (ranked n c.count-up.new.ranks work fits.places-enough c.count-up.ensures) ∙ length-range_with_len 0 n in
-    let planned : length c.plan-block-extent.new.ranks ≡ n = c.plan-block-extent.auto.ranks ∙ ap length ranks ∙ length-range_with_len 0 n in
-    let written = ap length (front-written n c.plan-block-extent.new.ranks (c.count-up.new.ranks ++ post_of 0 (n - 0) work) planned) ∙ planned in
+    let ranks = ranks-are n c.count_up.new.ranks work fits.places-enough c.count_up.ensures in
+    let listed : length c.count_up.new.ranks ≡ n = ap length (ranked n c.count_up.new.ranks work fits.places-enough c.count_up.ensures) ∙ length-range_with_len 0 n in
+    let planned : length c.plan_block-extent.new.ranks ≡ n = c.plan_block-extent.auto.ranks ∙ ap length ranks ∙ length-range_with_len 0 n in
+    let written = ap length (front-written n c.plan_block-extent.new.ranks (c.count_up.new.ranks ++ post_of 0 (n - 0) work) planned) ∙ planned in
     let zeros : c.fill.new.self ≡ replicate n 0 = c.fill.ensures.after (λ y h. search rules) ∙ ap (λ m. replicate m 0) written in
-    let blocks = c.plan-block-extent.ensures.count in
-    let visits = c.plan-block-extent.ensures.visits in
-    let extent-is : c.plan-block-extent.result ≡ extent_of (subtree ps alpha rho 0 1 (take (n - 0) (c.count-up.new.ranks ++ post_of 0 (n - 0) work))) = λ i. record { blocks = blocks i; visits = visits i } in
+    let blocks = c.plan_block-extent.ensures.count in
+    let visits = c.plan_block-extent.ensures.visits in
+    let extent-is : c.plan_block-extent.result ≡ extent_of (subtree ps alpha rho 0 1 (take (n - 0) (c.count_up.new.ranks ++ post_of 0 (n - 0) work))) = λ i. record { blocks = blocks i; visits = visits i } in
     record {
       answer = ap Some (extent-is ∙ ap (λ xs. extent_of (subtree ps alpha rho 0 1 xs)) ranks) ∙ sym (cond-true _ _ _ can);
       rows =
-          c.plan-block-extent.ensures.rows
+          c.plan_block-extent.ensures.rows
           ∙ ap (λ xs. sets table 0 (map (row_of measures) (subtree ps alpha rho 0 1 xs))) ranks
           ∙ rows-overwritten ps alpha rho fits.settings measures table fits.rows-enough
           ∙ sym (cond-true _ _ _ can);
-      cleared = front-cleared n c.fill.new.self c.plan-block-extent.new.ranks c.count-up.new.ranks work planned listed zeros ∙ sym (cond-true _ _ _ can);
+      cleared = front-cleared n c.fill.new.self c.plan_block-extent.new.ranks c.count_up.new.ranks work planned listed zeros ∙ sym (cond-true _ _ _ can);
       fan = λ _. mask-tells ps alpha rho fits.settings;
     }

@@ -9,7 +9,7 @@ use Rattle.measured_planner.proofs.earliest.earliest.Goals as goal
 use Rattle.measured_planner.proofs.earliest.earliest.Goals.{then-at-limit, else-at-limit}
 
 -- the rank at the turn's place, put where there is a place for it
-more : (c : goal.Joined-count-limit) (chosen : List ℕ) → let i = c.loop-rank.rank-index in let at = c.make-place-at.result in let new = c.make-place-at.new.chosen in
+more : (c : goal.Joined-count-limit) (chosen : List ℕ) → let i = c.loop-rank.rank-index in let at = c.make_place-at.result in let new = c.make_place-at.new.chosen in
     (at < c.args.limit → get_or chosen at 0 ≡ get_or c.args.ranks.now i 0) → ((j : ℕ) → (j ≡ at → ⊥) → get_or chosen j 0 ≡ get_or new j 0)
     → Earliest (rank_before c.args.priorities.now) (take (i + 1) c.args.ranks.now) (min c.args.limit (i + 1)) chosen
 more c chosen own others =
@@ -19,8 +19,8 @@ more c chosen own others =
     let long : length (take i xs) ≡ i = omega (arith, length-take i xs) in
     rw (take_more xs i 0 within)
     (subst (λ n. Earliest (rank_before c.args.priorities.now) (take i xs ++ get_or xs i 0 ∷ []) (min c.args.limit (n + 1)) chosen) long
-    (earliest-more (strict c.args.priorities.now) (take i xs) (get_or xs i 0) c.loop-rank.count c.args.limit c.make-place-at.result c.loop-rank.chosen c.make-place-at.new.chosen
-    (c.loop-rank.invariant.1 ∙ ap (min c.args.limit) (sym long)) (distinct-front xs i c.requires.distinct within) c.loop-rank.invariant.0 c.make-place-at.ensures.made c.make-place-at.ensures.stops
+    (earliest-more (strict c.args.priorities.now) (take i xs) (get_or xs i 0) c.loop-rank.count c.args.limit c.make_place-at.result c.loop-rank.chosen c.make_place-at.new.chosen
+    (c.loop-rank.invariant.1 ∙ ap (min c.args.limit) (sym long)) (distinct-front xs i c.requires.distinct within) c.loop-rank.invariant.0 c.make_place-at.ensures.made c.make_place-at.ensures.stops
     chosen own others))
 
 pub loop-rank-preserved : goal.loop-rank-preserved
@@ -29,7 +29,7 @@ loop-rank-preserved c =
       rw counted (
           elim c.if-at-limit.branch [
             | then-at-limit w ↦
-                rw w.chosen-is (more c _ (λ fits. get_or-set_same c.make-place-at.new.chosen _ _ 0 (omega arith)) (λ j apart. get_or-set_other c.make-place-at.new.chosen _ j _ 0 apart))
+                rw w.chosen-is (more c _ (λ fits. get_or-set_same c.make_place-at.new.chosen _ _ 0 (omega arith)) (λ j apart. get_or-set_other c.make_place-at.new.chosen _ j _ 0 apart))
             | else-at-limit w ↦ rw w.chosen-is (more c _ (λ fits. absurd (omega arith)) (λ j apart. refl))
           ]
           ),

@@ -32,7 +32,7 @@ loop-i-preserved c =
       | then-not-holds w ↦
           rw (w.ranks-is, w.length-is, w.measure-is) (
             gathering-more _ _ _ _ _ _ x 0 c.loop-i.invariant.0 inside refl (sym c.if-separates.ensures) (sym w.if-not-holds.ensures),
-            summed-more c.args.measures.now c.loop-i.ranks c.loop-i.length c.loop-i.measure x w.from-measure.result (omega arith) (w.from-measure.ensures ∙ w.at-rank.ensures) (omega arith) c.loop-i.invariant.1,
+            summed-more c.args.measures.now c.loop-i.ranks c.loop-i.length c.loop-i.measure x w.from-measure.result (omega arith) (w.from-measure.ensures ∙ w.at_rank.ensures) (omega arith) c.loop-i.invariant.1,
           )
       | else-not-holds w ↦
           rw (w.ranks-is, w.length-is, w.measure-is) (

@@ -14,13 +14,13 @@ returns c =
     let alpha = c.args.alpha in
     let chosen = c.earliest-chosen.result in
     let separators = fan_out alpha c.args.rho (length xs) - 1 in
-    let fan : c.fan-out-separators.result - 1 ≡ separators = ap (λ n. n - 1) c.fan-out-separators.ensures in
-    let last : ltb 0 (c.fan-out-separators.result - 1) ≡ true → c.if-divides.separator ≡ get_or chosen (separators - 1) 0 =
+    let fan : c.fan_out-separators.result - 1 ≡ separators = ap (λ n. n - 1) c.fan_out-separators.ensures in
+    let last : ltb 0 (c.fan_out-separators.result - 1) ≡ true → c.if-divides.separator ≡ get_or chosen (separators - 1) 0 =
     λ divides. elim c.if-divides.branch [
       | then-divides w ↦ w.separator-is ∙ ap (λ n. get_or chosen (n - 1) 0) fan
-      | else-divides w ↦ absurd (omega (arith, ltb-true 0 (c.fan-out-separators.result - 1) divides, w.if-divides.false))
+      | else-divides w ↦ absurd (omega (arith, ltb-true 0 (c.fan_out-separators.result - 1) divides, w.if-divides.false))
     ] in
     record {
       block = block-told (strict ps) xs alpha chosen c.earliest-chosen.ensures c.min.result c.min.ensures (omega arith);
-      active = active-told (strict ps) xs alpha chosen c.earliest-chosen.ensures separators c.if-divides.separator (ltb 0 (c.fan-out-separators.result - 1)) (ap (ltb 0) fan) (fan-within alpha c.args.rho (length xs) c.requires.settings.shares) last;
+      active = active-told (strict ps) xs alpha chosen c.earliest-chosen.ensures separators c.if-divides.separator (ltb 0 (c.fan_out-separators.result - 1)) (ap (ltb 0) fan) (fan-within alpha c.args.rho (length xs) c.requires.settings.shares) last;
     }
