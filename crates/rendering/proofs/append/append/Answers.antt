@@ -6,5 +6,5 @@ pub returns : goal.returns
 returns c =
     record {
       end = refl;
-      laid = λ front laid. laid_more laid c.args.bytes.now c.copy-from-slice.new.self (omega arith) c.copy-from-slice.ensures.after;
+      laid = λ front laid. laid_more laid c.args.bytes.now c.copy_from_slice.new.self (omega arith) c.copy_from_slice.ensures.after;
     }

@@ -7,11 +7,11 @@ pub loop-section-init : goal.loop-section-init
 loop-section-init c = writing-none _ 8 c.args.sections.now c.args.at c.args.block.now
 
 pub append-end-requires : goal.append-end-requires
-append-end-requires c = omega (arith, c.loop-section.invariant.ends, ap length c.record-bytes.ensures)
+append-end-requires c = omega (arith, c.loop-section.invariant.ends, ap length c.record_bytes.ensures)
 
 pub loop-section-preserved : goal.loop-section-preserved
 loop-section-preserved c =
-    writing_more c.loop-section.invariant no_section c.record-bytes.result c.append-end.result c.append-end.new.block c.loop-section-test.true c.record-bytes.ensures (ap length c.record-bytes.ensures) c.append-end.ensures.end c.append-end.ensures.laid
+    writing_more c.loop-section.invariant no_section c.record_bytes.result c.append-end.result c.append-end.new.block c.loop-section-test.true c.record_bytes.ensures (ap length c.record_bytes.ensures) c.append-end.ensures.end c.append-end.ensures.laid
 
 pub returns : goal.returns
 returns c = writing-all c.loop-section.invariant c.loop-section-test.false
