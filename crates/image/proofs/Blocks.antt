@@ -90,11 +90,11 @@ record-bytes kind s =
     bytes-then 2 s.number (le 2 (length s.members) ++ measure) (bytes-then 2 (length s.members) measure (bytes_le 4 (total_measure kind s.members)))
 
 -- alpha is small enough for its slots and section records
-record Room (width alpha : ℕ) : Type 0 where
-  low : alpha ≤ 16
-  all : 8 + alpha * width + 8 * (alpha + 1) ≤ 256
+pub record Room (width alpha : ℕ) : Type 0 where
+  pub low : alpha ≤ 16
+  pub all : 8 + alpha * width + 8 * (alpha + 1) ≤ 256
 
-room : (width alpha : ℕ) → alpha_fits width alpha ≡ true → Room width alpha
+pub room : (width alpha : ℕ) → alpha_fits width alpha ≡ true → Room width alpha
 room width alpha fits =
     let high = and_parts _ _ (and_parts _ _ fits).1 in
     record { low = leb-true alpha 16 high.0; all = leb-true _ 256 high.1 }

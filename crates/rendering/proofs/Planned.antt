@@ -76,8 +76,8 @@ module _ (kind : Kind) (ms : List (List ℕ)) (wide : All (λ m. length m ≡ ki
     fan-is : ones (mask_of node.active) + 1 ≡ length node.sections
     fan-is = ap (λ n. n + 1) (ones-mask node.active) ∙ sym known.fan
 
-    pub row_block : row_block kind alpha (table_of ms) (row_of (measures_of kind ms) node) ≡ tree_block kind alpha (map_node (λ i. get_or ms i []) node)
-    row_block =
+    pub row_block_is : row_block kind alpha (table_of ms) (row_of (measures_of kind ms) node) ≡ tree_block kind alpha (map_node (λ i. get_or ms i []) node)
+    row_block_is =
         ap₂ (block_from kind alpha (mask_of node.active) node.weight node.parent)
         (ap (map (message_at kind (table_of ms))) ranks-are ∙ map_same (message_at kind (table_of ms)) (λ i. get_or ms i []) node.entries (All-weaker _ _ message-is node.entries known.entries))
         (ap (flat_map row_record) (front-filled 17 no_section (map (section_row (measures_of kind ms)) node.sections) _ (length-map node.sections (section_row (measures_of kind ms)) ∙ sym fan-is))
@@ -117,7 +117,7 @@ plans-render-images kind s ms lawful fit set =
       possible = All-map _ (row_of measures) plan (All-weaker _ _ (λ node k. row-renders kind ms wide s.alpha node k.few k.bounded (and_parts _ _ fit).0) plan each);
       blocks =
           map-twice (row_of measures) (row_block kind s.alpha (table_of ms)) plan
-          ∙ map_same _ _ plan (All-weaker _ _ (λ node k. row_block kind ms wide s.alpha node k.few k.bounded) plan each)
+          ∙ map_same _ _ plan (All-weaker _ _ (λ node k. row_block_is kind ms wide s.alpha node k.few k.bounded) plan each)
           ∙ sym (map-twice (map_node f) (tree_block kind s.alpha) plan)
           ∙ ap (map (tree_block kind s.alpha)) (sym tree_is);
     }
