@@ -1,5 +1,5 @@
 -- Check: whether blocks are the image of a set of messages. Assumes nothing.
-use Rattle.std.specs.Prelude.{ℕ, zero, suc, ◌+◌, ◌*◌, max, Bool, true, false, cond, not, ◌&&◌, List, [], ◌∷◌, length, is_some, Ok, Err, nat_le}
+use Rattle.std.specs.Prelude.{ℕ, zero, suc, ◌+◌, ◌*◌, max, Bool, not, ◌&&◌, List, [], ◌∷◌, length, is_some, Ok, Err, nat_le}
 use Rattle.std.specs.Str.{bytes_eq}
 use Rattle.kinds.specs.Kind.{Kind}
 use Rattle.image.specs.Image.{image}

@@ -3,7 +3,6 @@ use Rattle.std.specs.Prelude.{◌≡◌, ℕ, ◌*◌, List, [], ◌∷◌, ◌+
 use Rattle.drawing.specs.Drawing.{priority}
 use Rattle.fields.specs.Numbers.{le}
 use Rattle.kinds.specs.IndexMarks.{index_marks}
-use Rattle.kinds.specs.Kind.{Kind}
 use Rattle.kinds.specs.Paragraphs.{paragraphs}
 use Rattle.image.specs.Image.{zero_block}
 use Rattle.image.specs.Messages.{key_of}
@@ -11,7 +10,7 @@ use Rattle.image.specs.Reading.{field, mask, slots}
 use Rattle.image.specs.declared.settings.Settings.{Settings}
 use Rattle.chapter.specs.Deliver.{deliver_answer, deliver_blocks}
 use Rattle.chapter.specs.Layout.{lay_out_answer, lay_out_blocks}
-use Rattle.chapter.specs.LookUp.{Found, look_up_answer}
+use Rattle.chapter.specs.LookUp.{look_up_answer}
 use Rattle.chapter.specs.Page.{page_answer}
 
 -- a paragraph of origin 1 and sender 1 with text 0, by place, state, lines and stamp

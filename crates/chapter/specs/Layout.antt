@@ -1,5 +1,5 @@
 -- Lay out: an empty chapter over any store. Assumes nothing.
-use Rattle.std.specs.Prelude.{ℕ, ◌+◌, List, [], length, Some, None, Ok, Err, Option, MatchOption, nat_le}
+use Rattle.std.specs.Prelude.{ℕ, ◌+◌, List, [], length, Some, None, Ok, Err, Option, nat_le}
 use Rattle.kinds.specs.Kind.{Kind}
 use Rattle.image.specs.Image.{image}
 use Rattle.image.specs.declared.settings.Settings.{Settings}

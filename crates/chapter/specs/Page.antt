@@ -1,10 +1,10 @@
 -- Page: on which page an entry begins. Assumes nothing.
-use Rattle.std.specs.Prelude.{ℕ, zero, suc, ◌+◌, ◌/◌, cond, List, length, Some, None, Ok, Err, Option, ◌==◌, nat_lt}
+use Rattle.std.specs.Prelude.{ℕ, zero, suc, ◌+◌, ◌/◌, cond, List, length, Some, None, Ok, Option, ◌==◌, nat_lt}
 use Rattle.kinds.specs.Kind.{Kind}
 use Rattle.image.specs.Walk.{measure_before, next_block}
 use Rattle.image.specs.declared.head.Head.{Head}
 use Rattle.chapter.specs.Answers.{Answer, and_then, need, head_of}
-use Rattle.chapter.specs.LookUp.{Found, tree_block_at, seek}
+use Rattle.chapter.specs.LookUp.{tree_block_at, seek}
 
 -- summed along the path from block b to its end, past the key's own block
 abbrev pub lines_before : Kind → Head → List ℕ → List (List ℕ) → (steps b lines : ℕ) → Answer ℕ

@@ -1,5 +1,5 @@
 -- A node's block, written and read back. Assumes nothing.
-use Rattle.std.proofs.Common.{◌≡◌, ℕ, zero, suc, ◌+◌, ◌-◌, ◌*◌, ◌/◌, ◌%◌, ◌^◌, ◌<◌, ◌≤◌, Bool, true, false, cond, eqb, ltb, leb, List, [], ◌∷◌, ◌++◌, map, length, get_or, take, drop, replicate, count_by, sym, refl, ap, ◌∙◌, ap₂, append_assoc, mul-le-mul_right, div-one, arith, pow_mono}
+use Rattle.std.proofs.Common.{◌≡◌, ℕ, zero, suc, ◌+◌, ◌-◌, ◌*◌, ◌/◌, ◌%◌, ◌^◌, ◌<◌, ◌≤◌, Bool, true, false, cond, eqb, ltb, List, [], ◌∷◌, ◌++◌, map, length, get_or, drop, replicate, count_by, sym, refl, ap, ◌∙◌, ap₂, append_assoc, mul-le-mul_right, div-one, arith, pow_mono}
 use native.Mathlib.Nat.{pow-succ', div-div-eq-div-mul, div-eq_of_lt}
 use lib.Count.{ones, ones_step}
 use lib.Bits.{bit_and, and_mask}
@@ -9,16 +9,15 @@ use Rattle.std.proofs.ByRecursion.{All-append, All-get_or}
 use Rattle.std.proofs.lemmas.List.{length-append, length-map, length-replicate, get_or-map, drop_at, drop-drop}
 use Rattle.std.proofs.lemmas.List.Sums.{sum_by-cons, count_by-le-length}
 use Rattle.std.proofs.lemmas.Bool.{and_parts, leb-true, le-ltb}
-use Rattle.fields.specs.Numbers.{Bytes, number, le, part}
-use Rattle.fields.proofs.Numbers.{length-le, bytes_le, number-le}
+use Rattle.fields.specs.Numbers.{Bytes, le, part}
+use Rattle.fields.proofs.Numbers.{bytes_le, number-le}
 use Rattle.fields.proofs.Parts.{part-past, length-joined, part-joined}
 use Rattle.kinds.specs.Kind.{Kind, Lawful}
 use Rattle.tree.specs.Tree.{Section, Node}
 use Rattle.image.specs.Image.{filled, block_of, mask_of, section_record, tree_block}
-use Rattle.image.specs.Laws.{Block, section_says, SectionFits, NodeFits, ReadsBack, TreeBlockLaws, TreeBlockReadsBack}
+use Rattle.image.specs.Laws.{Block, section_says, SectionFits, NodeFits, ReadsBack, TreeBlockReadsBack}
 use Rattle.image.specs.Messages.{total_measure}
-use Rattle.image.specs.declared.section.SectionFields.{SectionFields}
-use Rattle.image.specs.Reading.{section_fields, field, mask, active_at, section_count, slots, slot, section_at, sections_of}
+use Rattle.image.specs.Reading.{section_fields, mask, section_count, slot, section_at, sections_of}
 use Rattle.image.specs.Settings.{alpha_fits}
 
 pub length-filled : {X : Type 0} (x : X) (n : ℕ) (xs : List X) → length xs ≤ n → length (filled x n xs) ≡ n

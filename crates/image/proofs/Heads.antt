@@ -1,16 +1,16 @@
 -- The head, written and read back. Assumes nothing.
-use Rattle.std.proofs.Common.{◌≡◌, ℕ, ◌^◌, ◌<◌, ◌≤◌, Bool, true, cond, ◌&&◌, eqb, leb, List, [], ◌∷◌, ◌++◌, Some, sym, refl, ap, ◌∙◌, arith}
+use Rattle.std.proofs.Common.{◌≡◌, ℕ, ◌^◌, ◌<◌, ◌≤◌, Bool, true, ◌&&◌, eqb, leb, List, ◌∷◌, ◌++◌, Some, refl, ap, ◌∙◌, arith}
 use Rattle.std.proofs.lemmas.Bool.{and_from, and_parts, leb-true, le-leb, eq-eqb, cond-true}
 use Rattle.fields.specs.Numbers.{le}
 use Rattle.fields.proofs.Numbers.{bytes_le, number-le}
 use Rattle.kinds.specs.Kind.{Kind, Lawful}
 use Rattle.image.specs.declared.head.Counts.{Counts}
 use Rattle.image.specs.Image.{head_mark, head_version, head_block}
-use Rattle.image.specs.Laws.{Block, CountsFit, HeadLaws, HeadReadsBack}
+use Rattle.image.specs.Laws.{Block, CountsFit, HeadReadsBack}
 use Rattle.image.specs.declared.head.Head.{Head}
 use Rattle.image.specs.Reading.{head_fields, head_right}
 use Rattle.image.specs.declared.settings.Settings.{Settings}
-use Rattle.image.specs.Settings.{alpha_fits, up_to2000, settings_fit}
+use Rattle.image.specs.Settings.{settings_fit}
 use Rattle.image.proofs.Blocks.{block-of, bytes-then}
 
 -- the limits of the settings, as numbers

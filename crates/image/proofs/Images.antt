@@ -1,18 +1,17 @@
 -- The image of a set of messages: every node fits its block. Assumes nothing.
-use Rattle.std.proofs.Common.{◌≡◌, ℕ, zero, suc, ◌+◌, ◌-◌, ◌*◌, ◌^◌, ◌<◌, ◌≤◌, Bool, true, List, [], ◌∷◌, ◌++◌, map, length, replicate, sym, refl, ap, ◌∙◌, le_refl, mul-le-mul_right, arith}
-use Rattle.std.specs.List.{ContainsAt as Has, AllByRecursion as All}
-use Rattle.std.proofs.ByRecursion.{All-append, all_has_itself, All-map, All-weaker, all-has, sum_by_le}
-use Rattle.std.proofs.lemmas.List.{length-append, length-map, length-replicate}
-use Rattle.std.proofs.lemmas.Bool.{and_parts, leb-true}
-use Rattle.fields.specs.Numbers.{Bytes}
+use Rattle.std.proofs.Common.{◌≡◌, ℕ, zero, suc, ◌+◌, ◌*◌, ◌≤◌, true, List, ◌∷◌, map, length, replicate, refl, le_refl, arith}
+use Rattle.std.specs.List.{AllByRecursion as All}
+use Rattle.std.proofs.ByRecursion.{All-append, all_has_itself, All-map, All-weaker, sum_by_le}
+use Rattle.std.proofs.lemmas.List.{length-map}
+use Rattle.std.proofs.lemmas.Bool.{and_parts}
 use Rattle.kinds.specs.Kind.{Kind, Lawful}
 use Rattle.tree.specs.Laws.{NodeLaws}
 use Rattle.tree.specs.Tree.{Section, Node}
 use Rattle.tree.proofs.Bounds.{Bounded, Numbered, nodes-bounded, nodes-numbered}
 use Rattle.tree.proofs.Lists.{all_join, all_both}
 use Rattle.tree.proofs.Nodes.{nodes-lawful, nodes-few}
-use Rattle.image.specs.Image.{filled, zero_block, tree_block, head_block, tree_of, counts_of, image}
-use Rattle.image.specs.Laws.{Block, SectionFits, NodeFits, CountsFit, ImageLaws, ImageReadsBack}
+use Rattle.image.specs.Image.{zero_block, tree_block, head_block, tree_of, counts_of}
+use Rattle.image.specs.Laws.{Block, SectionFits, NodeFits, CountsFit, ImageReadsBack}
 use Rattle.image.specs.Messages.{Valid, Messages, total_measure, before}
 use Rattle.image.specs.declared.settings.Settings.{Settings}
 use Rattle.image.specs.Settings.{settings_fit}

@@ -1,5 +1,5 @@
 -- What is true of the blocks of an image. Assumes nothing.
-use Rattle.std.specs.Prelude.{◌≡◌, ℕ, ◌+◌, ◌^◌, ◌<◌, ◌≤◌, Bool, true, false, List, map, length, get_or, Some, count_by, slice_index_or}
+use Rattle.std.specs.Prelude.{◌≡◌, ℕ, ◌+◌, ◌^◌, ◌<◌, ◌≤◌, true, false, List, map, length, get_or, Some, count_by, slice_index_or}
 use Rattle.std.specs.List.{AllByRecursion as All}
 use Rattle.fields.specs.Numbers.{Bytes}
 use Rattle.kinds.specs.Kind.{Kind, Lawful}
@@ -7,7 +7,6 @@ use Rattle.tree.specs.Tree.{Section, Node}
 use Rattle.image.specs.declared.head.Counts.{Counts}
 use Rattle.image.specs.Image.{mask_of, head_block, tree_block, tree_of, counts_of, image}
 use Rattle.image.specs.Messages.{total_measure, Messages}
-use Rattle.image.specs.declared.head.Head.{Head}
 use Rattle.image.specs.declared.section.SectionFields.{SectionFields}
 use Rattle.image.specs.Reading.{read_head, field, entry_count, mask, active_at, slots, sections_of}
 use Rattle.image.specs.declared.settings.Settings.{Settings}

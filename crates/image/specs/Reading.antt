@@ -7,10 +7,8 @@ use Rattle.fields.specs.Numbers.{number, part}
 use Rattle.kinds.specs.Kind.{Kind}
 use Rattle.image.specs.declared.head.Head.{Head}
 use Rattle.image.specs.declared.section.SectionFields.{SectionFields}
-use Rattle.image.specs.declared.head.Counts.{Counts}
 use Rattle.image.specs.Image.{head_mark, head_version}
 use Rattle.image.specs.Messages.{key_of}
-use Rattle.image.specs.declared.settings.Settings.{Settings}
 use Rattle.image.specs.Settings.{settings_fit}
 
 -- the number in the k bytes from an offset on

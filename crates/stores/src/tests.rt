@@ -88,8 +88,8 @@ fn takes<S: BlockStore>(
 
 // A shelf on a shelf is written and taken apart: the clauses of the calls give every block of the store at the bottom.
 fn written_through<S: BlockStore>(store: S, buffer: &[u8]) -> S
-    ensures blocks { blocks result ≡ take 1 (blocks store) ++ (take 2 (part 1 4 (blocks store)) ++ write_blocks (part 2 9 (part 1 4 (blocks store))) 0 buffer.now ++ drop 11 (part 1 4 (blocks store))) ++ drop 5 (blocks store) }
-    ensures rest { rest result ≡ rest store }
+    ensures blocks { S.blocks result ≡ take 1 (S.blocks store) ++ (take 2 (part 1 4 (S.blocks store)) ++ write_blocks (part 2 9 (part 1 4 (S.blocks store))) 0 buffer.now ++ drop 11 (part 1 4 (S.blocks store))) ++ drop 5 (S.blocks store) }
+    ensures rest { S.rest result ≡ S.rest store }
 {
     let mut shelf = Shelf::new(Shelf::new(store, 1, 4), 2, 9);
     let _ = shelf.write(0, buffer);

@@ -1,11 +1,11 @@
 -- Bounds on what nodes hold, whatever the drawing order. Assumes nothing.
-use Rattle.std.proofs.Common.{◌≡◌, ℕ, zero, suc, ◌+◌, ◌≤◌, Bool, true, false, cond, List, [], ◌∷◌, ◌++◌, map, length, count_by, filter, sym, refl, ap, ◌∙◌, add-zero, arith}
+use Rattle.std.proofs.Common.{◌≡◌, ℕ, zero, suc, ◌+◌, ◌≤◌, Bool, true, false, cond, List, [], ◌∷◌, map, length, count_by, filter, refl, ap, ◌∙◌, add-zero, arith}
 use Rattle.std.specs.List.{AllByRecursion as All}
 use Rattle.std.proofs.ByRecursion.{All-append, all_kept_by, All-weaker}
 use Rattle.std.proofs.lemmas.List.{length-append, length-map}
-use Rattle.std.proofs.lemmas.List.Sums.{sum_by-cons, length-filter}
+use Rattle.std.proofs.lemmas.List.Sums.{sum_by-cons}
 use Rattle.std.proofs.lemmas.Bool.{both_ways}
-use Rattle.tree.specs.Tree.{Section, Node, block, is_active, among_earliest, cut, sections, forest, numbered, nodes}
+use Rattle.tree.specs.Tree.{Node, block, is_active, among_earliest, sections, forest, numbered, nodes}
 use Rattle.tree.proofs.Lists.{all_both}
 use Rattle.tree.proofs.Cutting.{length_cut, all-cut, cut-lengths, part-le-together}
 use Rattle.tree.proofs.Forest.{all-forest, length-numbered, all-numbered}

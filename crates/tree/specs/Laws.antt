@@ -1,9 +1,9 @@
 -- What is true of every tree, for any elements and any strict total drawing order. Assumes nothing.
-use Rattle.std.specs.Prelude.{◌≡◌, ℕ, ◌<◌, ◌≤◌, min, Bool, true, false, List, [], ◌∷◌, map, length, ◌≢◌}
+use Rattle.std.specs.Prelude.{◌≡◌, ℕ, ◌<◌, ◌≤◌, min, Bool, false, List, [], ◌∷◌, map, length, ◌≢◌}
 use Rattle.std.specs.List.Sorted.{IsPermutation}
 use Rattle.std.specs.List.{ContainsAt as Has, flat_map, AllByRecursion as All}
 pub use Rattle.fields.specs.Orders.{StrictOrder as Strict}
-use Rattle.tree.specs.Tree.{Section, Node, fan_out, block, sections, nodes, tree}
+use Rattle.tree.specs.Tree.{Node, fan_out, block, sections, nodes, tree}
 
 -- each element is so related to every later one
 abbrev pub Pairwise : {X : Type 0} → (X → X → Type 0) → List X → Type 0

@@ -1,7 +1,7 @@
 -- The block search tree over any elements, by the order in which they are drawn. Assumes nothing.
 --
 -- The elements are a list in key order. alpha is how many a block can hold, and rho governs the fan-out.
-use Rattle.std.specs.Prelude.{ℕ, zero, suc, ◌+◌, ◌-◌, ◌/◌, min, max, Bool, true, false, cond, List, [], ◌∷◌, ◌++◌, map, length, filter, nat_lt}
+use Rattle.std.specs.Prelude.{ℕ, zero, suc, ◌+◌, ◌-◌, ◌/◌, min, max, Bool, cond, List, [], ◌∷◌, ◌++◌, map, length, filter, nat_lt}
 
 -- a section of a block: the number of its own block, 0 if it is empty, and its members in key order
 pub record Section (X : Type 0) : Type 0 where

@@ -1,4 +1,3 @@
-use Rattle.std.proofs.Common.{rules}
 use Rattle.summary.proofs.summarize.Goals as goal
 
 pub returns-in-Ok : goal.returns-in-Ok

@@ -1,4 +1,4 @@
-use Rattle.std.proofs.Common.{◌≡◌, ◌+◌, ◌-◌, ◌*◌, ◌≤◌, min, [], ◌++◌, length, sym, ap, ◌∙◌, subst, mul-le-mul_right, arith, rules}
+use Rattle.std.proofs.Common.{◌≡◌, ◌+◌, ◌*◌, ◌≤◌, min, [], ◌++◌, length, sym, ap, ◌∙◌, subst, mul-le-mul_right, arith, rules}
 use lib.Count.{ones}
 use Rattle.std.specs.List.{flat_map}
 use Rattle.std.proofs.lemmas.List.{length-take}
