@@ -1,5 +1,5 @@
 -- Messages and notes counted one item at a time. Assumes nothing.
-use Rattle.std.proofs.Common.{◌≡◌, ℕ, zero, suc, ◌+◌, ◌^◌, ◌<◌, ◌≤◌, List, [], ◌∷◌, map, length, Some, None, Option, sym, refl, ap, ◌∙◌, arith}
+use Rattle.std.proofs.Common.{◌≡◌, ℕ, zero, suc, ◌+◌, ◌^◌, ◌<◌, ◌≤◌, List, [], ◌∷◌, map, length, Some, None, Option, refl, ap, ◌∙◌, arith}
 use Rattle.parcels.specs.Format.{ItemValue, message, note}
 use Rattle.parcels.specs.Reading.{read_item, front_then, front_items}
 use Rattle.parcels.specs.Walk.{numbered, messages_in, notes_in}

@@ -1,17 +1,16 @@
 -- A parcel is accepted exactly if it was written, and what is read is what was written. Assumes nothing.
-use Rattle.std.proofs.Common.{◌≡◌, ℕ, zero, suc, ◌+◌, ◌-◌, ◌^◌, ◌<◌, ◌≤◌, Bool, true, false, cond, not, eqb, ltb, List, [], ◌∷◌, ◌++◌, length, get_or, take, drop, Some, None, Ok, Err, Option, Result, sym, refl, ap, ◌∙◌, subst, ap₂, append_assoc, arith}
+use Rattle.std.proofs.Common.{◌≡◌, ℕ, zero, suc, ◌-◌, ◌≤◌, Bool, true, false, cond, List, [], ◌∷◌, ◌++◌, length, get_or, drop, Some, None, Ok, Err, Option, Result, sym, refl, ap, ◌∙◌, subst, ap₂, arith}
 use Rattle.std.specs.Result.{result_map_both}
 use Rattle.std.specs.List.{flat_map, AllByRecursion as All}
-use Rattle.std.specs.Str.{bytes_eq}
 use Rattle.std.proofs.ByRecursion.{All-drop}
 use Rattle.std.proofs.lemmas.Slice.Eq.{bytes_eq-Decides}
-use Rattle.std.proofs.lemmas.List.{length-append, take_at, drop_at, take_all, drop_more}
+use Rattle.std.proofs.lemmas.List.{length-append, take_at, drop_at, drop_more}
 use Rattle.std.proofs.lemmas.Bool.{ltb-false, le-leb, le-ltb, eq-eqb, eqb-true, not-false, cond-true}
 use Rattle.fields.specs.Numbers.{Bytes, number, le, part}
 use Rattle.fields.proofs.Numbers.{number-le, number-part-lt, le-part, part_then}
 use Rattle.parcels.specs.Format.{ItemValue, message, note, Contents, parcel_mark, parcel_version, encode_item, encode_header, encode, ItemFits, Fits}
 use Rattle.parcels.specs.Reading.{cut_item, read_item, read_items, item_then, header_refusal, unless_refused, read_parcel, chapter_of, count_of, for_chapter, AcceptsWritten}
-use Rattle.parcels.proofs.Opening.{none-some, Opens, opens}
+use Rattle.parcels.proofs.Opening.{none-some, opens}
 
 -- a cut gives back what was put at the front
 cut-written : (item : List ℕ → ItemValue) (bs rest : List ℕ) → cut_item (length bs) item (bs ++ rest) ≡ Some (item bs, rest)

@@ -46,7 +46,8 @@ fn accepted(rt: HostRuntime) -> Result<(), Fail> {
     assert_eq!(rt; counts.notes, 2);
     for (number, item) in parcel.items() {
         let right = match item {
-            Item::Message(m) => number == 1 && m == b"abcd".as_slice() || number == 4 && m == b"efgh".as_slice(),
+            Item::Message(m) => number == 1 && m == b"abcd".as_slice()
+                || number == 4 && m == b"efgh".as_slice(),
             Item::Note(n) => number == 2 && n.is_empty() || number == 3 && n == b"xyz".as_slice(),
         };
         assert!(rt; right);

@@ -1,4 +1,4 @@
-use Rattle.std.proofs.Common.{ap, ◌∙◌, arith, rules}
+use Rattle.std.proofs.Common.{ap, ◌∙◌}
 use Rattle.parcels.specs.Walk.{to_come}
 use Rattle.parcels.proofs.Counting.{counted_none, counted-fits, message-counted, note-counted, counted-all}
 use Rattle.parcels.proofs.parcel.Parcel.counts.Goals as goal

@@ -1,4 +1,4 @@
-use Rattle.std.proofs.Common.{◌≡◌, ◌*◌, ◌<◌, length, take, drop, vec_items, sym, refl, ap, ◌∙◌, arith, rules}
+use Rattle.std.proofs.Common.{◌≡◌, ◌*◌, ◌<◌, length, take, drop, vec_items, sym, refl, ◌∙◌, arith, rules}
 use Rattle.stores.specs.Access.{accepts, reads}
 use Rattle.stores.specs.Stores.{run_blocks, run_count}
 use Rattle.stores.specs.Cut.{get_or-cut}
