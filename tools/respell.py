@@ -3,7 +3,8 @@
 
 usage: python3 tools/respell.py, at the top of the repository, once, after the toolchain's own port script.
 The names are those of respell.txt, a line for each: the old name and the new one. Whole words alone are turned, in specs, proofs,
-sources and must-fail edits; strings, and what is not listed, stay as they are.
+sources and must-fail edits; strings, and what is not listed, stay as they are. What the port script calls All by another
+library name gets that name.
 """
 
 import pathlib
@@ -11,6 +12,15 @@ import re
 
 HERE = pathlib.Path(__file__).resolve().parent
 WORD = re.compile(r'"(?:\\.|[^"\\])*"|[A-Za-z_][\w\'-]*')
+ALL = re.compile(r'(?:--|//).*|"(?:\\.|[^"\\])*"|(?<![\w.\'-])All(?![\w\'-])')
+
+
+def respelled(text, names):
+    text = WORD.sub(lambda m: names.get(m.group(0), m.group(0)), text)
+    if "AllByRecursion as All" in text:
+        text = text.replace("AllByRecursion as All", "AllByRecursion")
+        text = ALL.sub(lambda m: "AllByRecursion" if m.group(0) == "All" else m.group(0), text)
+    return text
 
 
 def main():
@@ -21,7 +31,7 @@ def main():
             if "out" in path.parts:
                 continue
             old = path.read_text(encoding="utf-8")
-            new = WORD.sub(lambda m: names.get(m.group(0), m.group(0)), old)
+            new = respelled(old, names)
             if new != old:
                 path.write_text(new, encoding="utf-8")
                 print(path)

@@ -1,7 +1,7 @@
 -- Parts of a list that is made of pieces of one length. Assumes nothing.
 use Rattle.std.proofs.Common.{◌≡◌, ℕ, zero, suc, ◌+◌, ◌-◌, ◌*◌, ◌<◌, min, List, [], ◌∷◌, ◌++◌, length, get_or, take, drop, sym, ap, ◌∙◌, ⊎_elim, append_assoc, suc-mul, add_comm, zero-mul, arith}
 use native.Mathlib.Nat.{sub-zero}
-use Rattle.std.specs.List.{flat_map, AllByRecursion as All}
+use Rattle.std.specs.List.{flat_map, AllByRecursion}
 use Rattle.std.proofs.lemmas.List.{length-append, take_at, take_all, take_rest, drop_at, drop_all, drop-drop}
 use Rattle.std.proofs.lemmas.Bool.{cases_lt}
 use Rattle.fields.specs.Numbers.{part}
@@ -12,7 +12,7 @@ part-past n at k xs = ap (take k) (sym (drop-drop at n xs))
 
 module _ {X Y : Type 0} (f : X → List Y) (w : ℕ) where
   abbrev OfWidth : List X → Type 0
-  OfWidth xs = All (λ x. length (f x) ≡ w) xs
+  OfWidth xs = AllByRecursion (λ x. length (f x) ≡ w) xs
 
   pub length-joined : (xs : List X) → OfWidth xs → length (flat_map f xs) ≡ length xs * w
   length-joined [] h = sym (zero-mul w)

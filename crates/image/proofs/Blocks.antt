@@ -3,7 +3,7 @@ use Rattle.std.proofs.Common.{◌≡◌, ℕ, zero, suc, ◌+◌, ◌-◌, ◌*�
 use native.Mathlib.Nat.{pow-succ', div-div-eq-div-mul, div-eq_of_lt}
 use lib.Count.{ones, ones_step}
 use lib.Bits.{bit_and, and_mask}
-use Rattle.std.specs.List.{flat_map, AllByRecursion as All}
+use Rattle.std.specs.List.{flat_map, AllByRecursion}
 use Rattle.std.proofs.lemmas.List.FromFn.{fill_by_all}
 use Rattle.std.proofs.ByRecursion.{All-append, All-get_or}
 use Rattle.std.proofs.lemmas.List.{length-append, length-map, length-replicate, get_or-map, drop_at, drop-drop}
@@ -68,11 +68,11 @@ record-says kind s fits =
     let measure' = number-le 4 (total_measure kind s.members) fits.measure in
     λ i. record { number = number' i; weight = weight' i; measure = measure' i }
 
-bytes-joined : {X : Type 0} (f : X → List ℕ) (xs : List X) → All (λ x. Bytes (f x)) xs → Bytes (flat_map f xs)
+bytes-joined : {X : Type 0} (f : X → List ℕ) (xs : List X) → AllByRecursion (λ x. Bytes (f x)) xs → Bytes (flat_map f xs)
 bytes-joined f [] h = tt
 bytes-joined f (x ∷ xs) h = All-append _ (f x) (flat_map f xs) h.0 (bytes-joined f xs h.1)
 
-every_one : {X : Type 0} {P : X → Type 0} (h : (x : X) → P x) (xs : List X) → All P xs
+every_one : {X : Type 0} {P : X → Type 0} (h : (x : X) → P x) (xs : List X) → AllByRecursion P xs
 every_one h [] = tt
 every_one h (x ∷ xs) = (h x, every_one h xs)
 
@@ -119,7 +119,7 @@ module _ (kind : Kind) (alpha : ℕ) (node : Node (List ℕ)) (lawful : Lawful k
   abbrev zeros : List ℕ
   zeros = replicate (256 - length (0 ∷ 0 ∷ 0 ∷ 0 ∷ 0 ∷ 0 ∷ 0 ∷ 0 ∷ laid)) 0
 
-  record-long : All (λ s. length (section_record kind s) ≡ 8) node.sections
+  record-long : AllByRecursion (λ s. length (section_record kind s) ≡ 8) node.sections
   record-long = every_one (λ s. refl) node.sections
 
   slots-long : length slot_bytes ≡ alpha * kind.width

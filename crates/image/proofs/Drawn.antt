@@ -1,6 +1,6 @@
 -- The messages of a set: their keys all differ, and their drawing order is a strict total one. Assumes nothing.
 use Rattle.std.proofs.Common.{◌≡◌, ℕ, List, [], ◌∷◌, Less, sym, refl, ap, subst, arith}
-use Rattle.std.specs.List.{ContainsAt as Has, AllByRecursion as All}
+use Rattle.std.specs.List.{ContainsAt as Has, AllByRecursion}
 use Rattle.std.proofs.ByRecursion.{All-take, All-weaker, all-has}
 use Rattle.std.proofs.lemmas.List.{length-take-le}
 use Rattle.kinds.specs.Kind.{Kind, Key, Lawful}
@@ -25,7 +25,7 @@ module _ (kind : Kind) (lawful : Lawful kind) where
       let z : ◌≡◌ {A = ℕ} 0 1 = cc in omega arith
 
   -- the first of rising keys is below all others
-  pub below_rest : (m : List ℕ) (ms : List (List ℕ)) → All (Valid kind) (m ∷ ms) → Rising kind (m ∷ ms) → All (KeyBelow kind m) ms
+  pub below_rest : (m : List ℕ) (ms : List (List ℕ)) → AllByRecursion (Valid kind) (m ∷ ms) → Rising kind (m ∷ ms) → AllByRecursion (KeyBelow kind m) ms
   below_rest m [] v r = tt
   below_rest m (l ∷ ms) v r = (
     r.0,
@@ -37,12 +37,12 @@ module _ (kind : Kind) (lawful : Lawful kind) where
   rising-rest m (l ∷ ms) r = r.1
 
   -- each key is below all later ones
-  pub messages-rise : (ms : List (List ℕ)) → All (Valid kind) ms → Rising kind ms → Pairwise (KeyBelow kind) ms
+  pub messages-rise : (ms : List (List ℕ)) → AllByRecursion (Valid kind) ms → Rising kind ms → Pairwise (KeyBelow kind) ms
   messages-rise [] v r = tt
   messages-rise (m ∷ ms) v r = (below_rest m ms v r, messages-rise ms v.1 (rising-rest m ms r))
 
   -- no message twice
-  pub messages-apart : (ms : List (List ℕ)) → All (Valid kind) ms → Rising kind ms → Distinct ms
+  pub messages-apart : (ms : List (List ℕ)) → AllByRecursion (Valid kind) ms → Rising kind ms → Distinct ms
   messages-apart [] v r = tt
   messages-apart (m ∷ ms) v r = (
     All-weaker _ _ (λ l less same. less-apart m l v.0 less (ap (key_of kind) same)) ms (below_rest m ms v r),
@@ -50,7 +50,7 @@ module _ (kind : Kind) (lawful : Lawful kind) where
   )
 
   -- of the messages of a set, two with one key are one
-  one_key : (ms : List (List ℕ)) → All (Valid kind) ms → Rising kind ms → All (λ x. All (λ y. key_of kind x ≡ key_of kind y → x ≡ y) ms) ms
+  one_key : (ms : List (List ℕ)) → AllByRecursion (Valid kind) ms → Rising kind ms → AllByRecursion (λ x. AllByRecursion (λ y. key_of kind x ≡ key_of kind y → x ≡ y) ms) ms
   one_key [] v r = tt
   one_key (m ∷ ms) v r =
       let below = below_rest m ms v r in (

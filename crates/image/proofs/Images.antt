@@ -1,6 +1,6 @@
 -- The image of a set of messages: every node fits its block. Assumes nothing.
 use Rattle.std.proofs.Common.{◌≡◌, ℕ, zero, suc, ◌+◌, ◌*◌, ◌≤◌, true, List, ◌∷◌, map, length, replicate, refl, le_refl, arith}
-use Rattle.std.specs.List.{AllByRecursion as All}
+use Rattle.std.specs.List.{AllByRecursion}
 use Rattle.std.proofs.ByRecursion.{All-append, all_has_itself, All-map, All-weaker, sum_by_le}
 use Rattle.std.proofs.lemmas.List.{length-map}
 use Rattle.std.proofs.lemmas.Bool.{and_parts}
@@ -19,12 +19,12 @@ use Rattle.image.proofs.Blocks.{length-filled, bytes-zeros, tree-block-reads-bac
 use Rattle.image.proofs.Drawn.{messages-apart, messages-strict}
 use Rattle.image.proofs.Heads.{Limits, limits, head-reads-back}
 
-all_replicate : {X : Type 0} (P : X → Type 0) (n : ℕ) (x : X) → P x → All P (replicate n x)
+all_replicate : {X : Type 0} (P : X → Type 0) (n : ℕ) (x : X) → P x → AllByRecursion P (replicate n x)
 all_replicate P zero x h = tt
 all_replicate P (suc n) x h = (h, all_replicate P n x h)
 
 -- no message measures more than 1,000
-pub measure-le : (kind : Kind) → Lawful kind → (ms : List (List ℕ)) → All (Valid kind) ms → total_measure kind ms ≤ length ms * 1000
+pub measure-le : (kind : Kind) → Lawful kind → (ms : List (List ℕ)) → AllByRecursion (Valid kind) ms → total_measure kind ms ≤ length ms * 1000
 measure-le kind lawful ms valid = sum_by_le kind.measured 1000 ms (All-weaker _ _ (λ m v. lawful.measure m v.bytes) ms valid)
 
 module _ (kind : Kind) (s : Settings) (ms : List (List ℕ)) (lawful : Lawful kind) (fit : settings_fit kind.width s ≡ true) (set : Messages kind ms) (room : length ms ≤ s.capacity) where
@@ -38,7 +38,7 @@ module _ (kind : Kind) (s : Settings) (ms : List (List ℕ)) (lawful : Lawful ki
   few-nodes =
       nodes-few (messages-strict kind lawful ms set) s.alpha s.rho l.alpha-low (length ms) 0 1 ms (all_has_itself ms) (messages-apart kind lawful ms set.each set.rising) (le_refl (length ms))
 
-  section-fits : (sec : Section (List ℕ)) → All (Valid kind) sec.members × (length sec.members ≤ length ms) → sec.number ≤ length ms + 1 → SectionFits kind sec
+  section-fits : (sec : Section (List ℕ)) → AllByRecursion (Valid kind) sec.members × (length sec.members ≤ length ms) → sec.number ≤ length ms + 1 → SectionFits kind sec
   section-fits sec small number = record {
     number = omega (arith, number, room, l.capacity);
     weight = omega (arith, small.1, room, l.capacity);
@@ -51,7 +51,7 @@ module _ (kind : Kind) (s : Settings) (ms : List (List ℕ)) (lawful : Lawful ki
     pub bounded : Bounded (Valid kind) (length ms) node
     pub numbered : Numbered (length ms + 1) node
 
-  pub known : All Known nodes
+  pub known : AllByRecursion Known nodes
   known =
       all_join (λ node laws others. record { laws = laws; bounded = others.0; numbered = others.1 }) nodes
       (nodes-lawful (messages-strict kind lawful ms set) s.alpha s.rho l.alpha-low l.rho-low (length ms) 0 1 ms (all_has_itself ms) (messages-apart kind lawful ms set.each set.rising))

@@ -1,6 +1,6 @@
 -- A test of each element of a list that is made from a function of the index, one element at a time. Assumes nothing.
 use Rattle.std.proofs.Common.{◌≡◌, ℕ, zero, suc, ◌+◌, ◌<◌, ◌≤◌, Bool, true, false, ◌&&◌, List, [], ◌∷◌, map, length, get_or, drop, sym, refl, ap, ◌∙◌, arith}
-use Rattle.std.specs.List.{range_with_len, AllByRecursion as All}
+use Rattle.std.specs.List.{range_with_len, AllByRecursion}
 use Rattle.std.proofs.lemmas.List.FromFn.{length-map-range_with_len, get_or-map-range_with_len}
 use Rattle.std.proofs.lemmas.List.{at_drop_more, at_drop_all}
 use Rattle.std.proofs.lemmas.Bool.{and_from, and_parts}
@@ -40,6 +40,6 @@ every-at test (x ∷ xs) zero d inside all = (and_parts (test x) (every test xs)
 every-at test (x ∷ xs) (suc i) d inside all = every-at test xs i d (omega arith) (and_parts (test x) (every test xs) all).1
 
 -- and the other way round
-pub every_true : {X : Type 0} (test : X → Bool) (xs : List X) → All (λ x. test x ≡ true) xs → every test xs ≡ true
+pub every_true : {X : Type 0} (test : X → Bool) (xs : List X) → AllByRecursion (λ x. test x ≡ true) xs → every test xs ≡ true
 every_true test [] passes = refl
 every_true test (x ∷ xs) passes = and_from _ _ passes.0 (every_true test xs passes.1)

@@ -1,6 +1,6 @@
 -- What is true of the blocks of an image. Assumes nothing.
 use Rattle.std.specs.Prelude.{◌≡◌, ℕ, ◌+◌, ◌^◌, ◌<◌, ◌≤◌, true, false, List, map, length, get_or, Some, count_by, slice_index_or}
-use Rattle.std.specs.List.{AllByRecursion as All}
+use Rattle.std.specs.List.{AllByRecursion}
 use Rattle.fields.specs.Numbers.{Bytes}
 use Rattle.kinds.specs.Kind.{Kind, Lawful}
 use Rattle.tree.specs.Tree.{Section, Node}
@@ -31,13 +31,13 @@ pub record SectionFits (kind : Kind) (s : Section (List ℕ)) : Type 0 where
 -- flags are set; numbers that fit their fields
 pub record NodeFits (kind : Kind) (alpha : ℕ) (node : Node (List ℕ)) : Type 0 where
   pub few : length node.entries ≤ alpha
-  pub wide : All (λ m. length m ≡ kind.width) node.entries
-  pub small : All Bytes node.entries
+  pub wide : AllByRecursion (λ m. length m ≡ kind.width) node.entries
+  pub small : AllByRecursion Bytes node.entries
   pub flags : length node.active ≡ length node.entries
   pub fan : length node.sections ≡ count_by (λ b. b) node.active + 1
   pub weight : node.weight < 256 ^ 2
   pub parent : node.parent < 256 ^ 2
-  pub each : All (SectionFits kind) node.sections
+  pub each : AllByRecursion (SectionFits kind) node.sections
 
 -- what is read of a node's block is the node's: entries, kind, separators, weight, parent, messages, sections
 pub record ReadsBack (kind : Kind) (alpha : ℕ) (node : Node (List ℕ)) (bytes : List ℕ) : Type 0 where
@@ -81,9 +81,9 @@ HeadReadsBack =
 -- its node
 pub record ImageLaws (kind : Kind) (s : Settings) (chapter n : ℕ) (ms : List (List ℕ)) : Type 0 where
   pub size : length (image kind s chapter n ms) ≡ n
-  pub blocks : All Block (image kind s chapter n ms)
+  pub blocks : AllByRecursion Block (image kind s chapter n ms)
   pub head : read_head kind (head_block kind s chapter (counts_of kind s ms)) ≡ Some (record { settings = s; counts = counts_of kind s ms; chapter = chapter })
-  pub nodes : All (λ node. ReadsBack kind s.alpha node (tree_block kind s.alpha node)) (tree_of kind s ms)
+  pub nodes : AllByRecursion (λ node. ReadsBack kind s.alpha node (tree_block kind s.alpha node)) (tree_of kind s ms)
 
 -- for any lawful kind, settings that fit, chapter number of four bytes, store of a block more than the capacity at least, and
 -- set of messages that the capacity can hold

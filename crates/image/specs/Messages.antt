@@ -3,7 +3,7 @@
 use Rattle.std.specs.Prelude.{◌≡◌, ℕ, Bool, List, [], ◌∷◌, length, take, Some, None, sum_by, Option}
 use Rattle.std.specs.declared.cmp.Ordering.TheVariants.{Less, Equal, Greater}
 use Rattle.std.specs.declared.cmp.Ordering.{Ordering}
-use Rattle.std.specs.List.{AllByRecursion as All}
+use Rattle.std.specs.List.{AllByRecursion}
 use Rattle.drawing.specs.Drawing.{drawn_before}
 use Rattle.fields.specs.Numbers.{Bytes}
 use Rattle.kinds.specs.Kind.{Kind}
@@ -33,7 +33,7 @@ module _ (kind : Kind) where
 
   -- a set of messages, no two with one key
   pub record Messages (ms : List (List ℕ)) : Type 0 where
-    pub each : All Valid ms
+    pub each : AllByRecursion Valid ms
     pub rising : Rising ms
 
   -- message a is drawn before message b, by their keys

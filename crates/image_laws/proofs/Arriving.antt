@@ -1,6 +1,6 @@
 -- Messages put into a set one after the other: their order does not matter. Assumes nothing.
 use Rattle.std.proofs.Common.{◌≡◌, ℕ, zero, suc, ◌<◌, List, [], ◌∷◌, ◌++◌, length, get_or, set, Less, sym, refl, ap, ◌∙◌, subst, ⊎_elim, arith}
-use Rattle.std.specs.List.{swap, AllByRecursion as All}
+use Rattle.std.specs.List.{swap, AllByRecursion}
 use Rattle.std.proofs.ByRecursion.{All-get_or}
 use Rattle.std.proofs.lemmas.List.{append-nil, append_assoc, length-set, get_or-set_same, get_or-set_other}
 use Rattle.std.proofs.lemmas.List.Sorted.{IsPermutation-keeps}
@@ -15,25 +15,25 @@ use Rattle.image_laws.specs.Arriving.{OrderDoesNotMatter, SetFromItsMessages}
 use Rattle.image_laws.proofs.Putting.{put-by, put-comm, put-twice, put-all, put-set}
 
 module _ (kind : Kind) (lawful : Lawful kind) where
-  puts-set : (xs ms : List (List ℕ)) → All (Valid kind) xs → Messages kind ms → Messages kind (put_all kind xs ms)
+  puts-set : (xs ms : List (List ℕ)) → AllByRecursion (Valid kind) xs → Messages kind ms → Messages kind (put_all kind xs ms)
   puts-set [] ms v is = is
   puts-set (x ∷ xs) ms v is = puts-set xs (put kind x ms) v.1 (put-set kind lawful x ms v.0 is)
 
   -- a message may as well come first as last
-  through : (x : List ℕ) (xs ms : List (List ℕ)) → Valid kind x → All (Valid kind) xs → All (Valid kind) ms → put kind x (put_all kind xs ms) ≡ put_all kind xs (put kind x ms)
+  through : (x : List ℕ) (xs ms : List (List ℕ)) → Valid kind x → AllByRecursion (Valid kind) xs → AllByRecursion (Valid kind) ms → put kind x (put_all kind xs ms) ≡ put_all kind xs (put kind x ms)
   through x [] ms vx v w = refl
   through x (y ∷ xs) ms vx v w =
       through x xs (put kind y ms) vx v.1 (put-all kind lawful (Valid kind) y ms v.0 w) ∙ ap (put_all kind xs) (put-comm kind lawful x y ms vx v.0 w)
 
   -- one of them put in again changes nothing
-  absorbed : (xs : List (List ℕ)) (i : ℕ) (d : List ℕ) (ms : List (List ℕ)) → i < length xs → All (Valid kind) xs → All (Valid kind) ms → put kind (get_or xs i d) (put_all kind xs ms) ≡ put_all kind xs ms
+  absorbed : (xs : List (List ℕ)) (i : ℕ) (d : List ℕ) (ms : List (List ℕ)) → i < length xs → AllByRecursion (Valid kind) xs → AllByRecursion (Valid kind) ms → put kind (get_or xs i d) (put_all kind xs ms) ≡ put_all kind xs ms
   absorbed [] i d ms inside v w = absurd (omega arith)
   absorbed (x ∷ xs) zero d ms inside v w =
       through x xs (put kind x ms) v.0 v.1 (put-all kind lawful (Valid kind) x ms v.0 w) ∙ ap (put_all kind xs) (put-twice kind lawful x ms v.0 w)
   absorbed (x ∷ xs) (suc i) d ms inside v w = absorbed xs i d (put kind x ms) (omega arith) v.1 (put-all kind lawful (Valid kind) x ms v.0 w)
 
   -- one replaced by another, each put in after the other list
-  replaced : (xs : List (List ℕ)) (i : ℕ) (y d : List ℕ) (ms : List (List ℕ)) → i < length xs → Valid kind y → All (Valid kind) xs → All (Valid kind) ms → put kind (get_or xs i d) (put_all kind (set xs i y) ms) ≡ put kind y (put_all kind xs ms)
+  replaced : (xs : List (List ℕ)) (i : ℕ) (y d : List ℕ) (ms : List (List ℕ)) → i < length xs → Valid kind y → AllByRecursion (Valid kind) xs → AllByRecursion (Valid kind) ms → put kind (get_or xs i d) (put_all kind (set xs i y) ms) ≡ put kind y (put_all kind xs ms)
   replaced [] i y d ms inside vy v w = absurd (omega arith)
   replaced (x ∷ xs) zero y d ms inside vy v w =
       through x xs (put kind y ms) v.0 v.1 (put-all kind lawful (Valid kind) y ms vy w)
@@ -42,7 +42,7 @@ module _ (kind : Kind) (lawful : Lawful kind) where
   replaced (x ∷ xs) (suc i) y d ms inside vy v w = replaced xs i y d (put kind x ms) (omega arith) vy v.1 (put-all kind lawful (Valid kind) x ms v.0 w)
 
   -- two of them in each other's place
-  exchanged_same : (xs : List (List ℕ)) (i j : ℕ) (d : List ℕ) (ms : List (List ℕ)) → i < length xs → j < length xs → All (Valid kind) xs → All (Valid kind) ms → put_all kind (set (set xs i (get_or xs j d)) j (get_or xs i d)) ms ≡ put_all kind xs ms
+  exchanged_same : (xs : List (List ℕ)) (i j : ℕ) (d : List ℕ) (ms : List (List ℕ)) → i < length xs → j < length xs → AllByRecursion (Valid kind) xs → AllByRecursion (Valid kind) ms → put_all kind (set (set xs i (get_or xs j d)) j (get_or xs i d)) ms ≡ put_all kind xs ms
   exchanged_same xs i j d ms hi hj v w =
       let a = get_or xs i d in
       let b = get_or xs j d in
@@ -61,7 +61,7 @@ module _ (kind : Kind) (lawful : Lawful kind) where
       ∙ replaced xs i b d ms hi vb v w
       ∙ absorbed xs j d ms hj v w
 
-  kept : (xs ms : List (List ℕ)) (l : List (List ℕ)) (i j : ℕ) → All (Valid kind) ms → i < length l → j < length l → All (Valid kind) l × (put_all kind l ms ≡ put_all kind xs ms) → All (Valid kind) (swap l i j) × (put_all kind (swap l i j) ms ≡ put_all kind xs ms)
+  kept : (xs ms : List (List ℕ)) (l : List (List ℕ)) (i j : ℕ) → AllByRecursion (Valid kind) ms → i < length l → j < length l → AllByRecursion (Valid kind) l × (put_all kind l ms ≡ put_all kind xs ms) → AllByRecursion (Valid kind) (swap l i j) × (put_all kind (swap l i j) ms ≡ put_all kind xs ms)
   kept xs ms [] i j w hi hj h = absurd (omega arith)
   kept xs ms (d ∷ l) i j w hi hj h =
       let all = d ∷ l in (
@@ -73,11 +73,11 @@ pub order-does-not-matter : OrderDoesNotMatter
 order-does-not-matter kind xs ys ms lawful is v shuffled =
     record {
       leaves = puts-set kind lawful xs ms v is;
-      same = (IsPermutation-keeps xs (λ l. All (Valid kind) l × (put_all kind l ms ≡ put_all kind xs ms)) (v, refl) (λ l i j hi hj h. kept kind lawful xs ms l i j is.each hi hj h) ys shuffled).1;
+      same = (IsPermutation-keeps xs (λ l. AllByRecursion (Valid kind) l × (put_all kind l ms ≡ put_all kind xs ms)) (v, refl) (λ l i j hi hj h. kept kind lawful xs ms l i j is.each hi hj h) ys shuffled).1;
     }
 
 module _ (kind : Kind) (lawful : Lawful kind) where
-  put_last : (x : List ℕ) (front : List (List ℕ)) → All (λ m. KeyBelow kind m x) front → put kind x front ≡ front ++ x ∷ []
+  put_last : (x : List ℕ) (front : List (List ℕ)) → AllByRecursion (λ m. KeyBelow kind m x) front → put kind x front ≡ front ++ x ∷ []
   put_last x [] below = refl
   put_last x (m ∷ front) below = put-by kind lawful x m front Less below.0 ∙ ap (λ l. m ∷ l) (put_last x front below.1)
 

@@ -2,7 +2,7 @@
 -- nothing.
 use Rattle.std.proofs.Common.{◌≡◌, ℕ, Bool, false, List, [], ◌∷◌, Ordering, Less, Equal, Greater, refl, ap, ◌∙◌, subst}
 use Rattle.std.specs.Ordering.{is_lt, ordering_reverse}
-use Rattle.std.specs.List.{AllByRecursion as All}
+use Rattle.std.specs.List.{AllByRecursion}
 use Rattle.std.proofs.ByRecursion.{All-weaker}
 use Rattle.std.proofs.lemmas.Bool.{both_ways}
 use Rattle.kinds.specs.Kind.{Kind, Key, Lawful}
@@ -22,9 +22,9 @@ module _ (kind : Kind) (key : List ℕ) where
   -- after one that is not below, all are above
   abbrev pub Passing : List (List ℕ) → Type 0
   Passing [] = Unit {0}
-  Passing (m ∷ ms) = (is_below m ≡ false → All (λ l. compared_with l ≡ Greater) ms) × Passing ms
+  Passing (m ∷ ms) = (is_below m ≡ false → AllByRecursion (λ l. compared_with l ≡ Greater) ms) × Passing ms
 
-  pub above-not-below : (ms : List (List ℕ)) → All (λ l. compared_with l ≡ Greater) ms → All (λ l. is_below l ≡ false) ms
+  pub above-not-below : (ms : List (List ℕ)) → AllByRecursion (λ l. compared_with l ≡ Greater) ms → AllByRecursion (λ l. is_below l ≡ false) ms
   above-not-below = All-weaker _ _ (λ l above. ap is_lt above)
 
   pub passing-front : (ms : List (List ℕ)) → Passing ms → Front is_below ms
@@ -50,7 +50,7 @@ module _ (kind : Kind) (key : List ℕ) where
         go Equal is = above (subst (λ k. kind.key_order k (key_of kind l) ≡ Less) (lawful.keys.equal _ _ a keyed is) less)
         go Greater is = above (lawful.keys.transitive key (key_of kind m) (key_of kind l) keyed a b (lawful.keys.mirror _ _ a keyed ∙ ap ordering_reverse is) less)
 
-    passing-from : (ms : List (List ℕ)) → All (Valid kind) ms → Rising kind ms → Passing ms
+    passing-from : (ms : List (List ℕ)) → AllByRecursion (Valid kind) ms → Rising kind ms → Passing ms
     passing-from [] v r = tt
     passing-from (m ∷ ms) v r = (
       λ out. all_join (λ l vl less. above-later m l v.0 vl less out) ms v.1 (below_rest kind lawful m ms v r),

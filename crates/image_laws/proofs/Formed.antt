@@ -1,7 +1,7 @@
 -- A node that is sound, and reads back from its block, makes the block well formed. Assumes nothing.
 use Rattle.std.proofs.Common.{◌≡◌, ℕ, ◌+◌, ◌^◌, ◌≤◌, true, not, ltb, List, [], ◌∷◌, map, length, is_some, sym, refl, ap, ◌∙◌, ⊎_elim, arith}
 use Rattle.std.specs.Ordering.{is_lt}
-use Rattle.std.specs.List.{AllByRecursion as All}
+use Rattle.std.specs.List.{AllByRecursion}
 use Rattle.std.proofs.ByRecursion.{All-map, All-weaker}
 use Rattle.std.proofs.lemmas.Bool.{and_from, or_left, or_right, le-leb, lt-ltb, eq-eqb}
 use Rattle.kinds.specs.Kind.{Kind}
@@ -29,11 +29,11 @@ module _ (kind : Kind) where
 pub record Sound (kind : Kind) (alpha u b : ℕ) (node : Node (List ℕ)) : Type 0 where
   pub some : 1 ≤ length node.entries
   pub few : length node.entries ≤ alpha
-  pub valid : All (Valid kind) node.entries
+  pub valid : AllByRecursion (Valid kind) node.entries
   pub rising : Pairwise (KeyBelow kind) node.entries
   pub flags : length node.active ≡ length node.entries
-  pub onward : All (λ s. LeadsTo b (u + 1) s.number) node.sections
-  pub measures : All (λ s. total_measure kind s.members ≤ 2000000) node.sections
+  pub onward : AllByRecursion (λ s. LeadsTo b (u + 1) s.number) node.sections
+  pub measures : AllByRecursion (λ s. total_measure kind s.members ≤ 2000000) node.sections
 
 module _ (kind : Kind) (alpha u b : ℕ) (node : Node (List ℕ)) (bytes : List ℕ) (sound : Sound kind alpha u b node) (back : ReadsBack kind alpha node bytes) where
   of-kind : of_kind kind alpha bytes ≡ true

@@ -1,7 +1,7 @@
 -- Putting messages into a set, in any order. Assumes nothing.
 use Rattle.std.proofs.Common.{◌≡◌, ℕ, List, [], ◌∷◌, Ordering, Less, Equal, Greater, sym, refl, ap, ◌∙◌, subst}
 use Rattle.std.specs.Ordering.{ordering_reverse}
-use Rattle.std.specs.List.{AllByRecursion as All}
+use Rattle.std.specs.List.{AllByRecursion}
 use Rattle.std.proofs.ByRecursion.{All-weaker}
 use Rattle.kinds.specs.Kind.{Kind, Keyed, Lawful}
 use Rattle.tree.specs.Laws.{Pairwise}
@@ -90,7 +90,7 @@ module _ (kind : Kind) (lawful : Lawful kind) where
         ∙ ap (put kind y) (sym (put-by x m ms Equal of-x))
 
   -- which of two messages comes first does not matter
-  pub put-comm : (x y : List ℕ) (ms : List (List ℕ)) → Valid kind x → Valid kind y → All (Valid kind) ms → put kind x (put kind y ms) ≡ put kind y (put kind x ms)
+  pub put-comm : (x y : List ℕ) (ms : List (List ℕ)) → Valid kind x → Valid kind y → AllByRecursion (Valid kind) ms → put kind x (put kind y ms) ≡ put kind y (put kind x ms)
   put-comm x y [] vx vy v = both_first x y [] vx vy refl refl
   put-comm x y (m ∷ ms) vx vy v = go (put-comm x y ms vx vy v.1) (keys m x) (keys m y) refl refl
     where
@@ -114,7 +114,7 @@ module _ (kind : Kind) (lawful : Lawful kind) where
           ∙ ap (put kind y) (sym (put-by x m ms Greater of-x))
 
   -- a message put in again changes nothing
-  pub put-twice : (x : List ℕ) (ms : List (List ℕ)) → Valid kind x → All (Valid kind) ms → put kind x (put kind x ms) ≡ put kind x ms
+  pub put-twice : (x : List ℕ) (ms : List (List ℕ)) → Valid kind x → AllByRecursion (Valid kind) ms → put kind x (put kind x ms) ≡ put kind x ms
   put-twice x [] vx v =
       put-by x x [] Equal (lawful.keys.same _ (key-of kind lawful x vx)) ∙ ap (λ h. h ∷ []) (highest-same kind.rank_order (lawful.ranks (key_of kind x)) x (keyed _ x vx refl))
   put-twice x (m ∷ ms) vx v = go (put-twice x ms vx v.1) (keys m x) refl
@@ -137,16 +137,16 @@ module _ (kind : Kind) (lawful : Lawful kind) where
           ∙ sym (put-by x m ms Greater is)
 
   -- what is true of a message and of all of a list is true of all of the list with the message put in
-  pub put-all : (P : List ℕ → Type 0) (x : List ℕ) (ms : List (List ℕ)) → P x → All P ms → All P (put kind x ms)
+  pub put-all : (P : List ℕ → Type 0) (x : List ℕ) (ms : List (List ℕ)) → P x → AllByRecursion P ms → AllByRecursion P (put kind x ms)
   put-all P x [] px all = (px, tt)
   put-all P x (m ∷ ms) px all = go (put-all P x ms px all.1) (keys m x) refl
     where
-      go : All P (put kind x ms) → (o : Ordering) → keys m x ≡ o → All P (put kind x (m ∷ ms))
-      go rest Less is = subst (All P) (sym (put-by x m ms Less is)) (all.0, rest)
-      go rest Equal is = subst (All P) (sym (put-by x m ms Equal is)) (highest-one kind.rank_order P m x all.0 px, all.1)
-      go rest Greater is = subst (All P) (sym (put-by x m ms Greater is)) (px, all)
+      go : AllByRecursion P (put kind x ms) → (o : Ordering) → keys m x ≡ o → AllByRecursion P (put kind x (m ∷ ms))
+      go rest Less is = subst (AllByRecursion P) (sym (put-by x m ms Less is)) (all.0, rest)
+      go rest Equal is = subst (AllByRecursion P) (sym (put-by x m ms Equal is)) (highest-one kind.rank_order P m x all.0 px, all.1)
+      go rest Greater is = subst (AllByRecursion P) (sym (put-by x m ms Greater is)) (px, all)
 
-  put-pairwise : (x : List ℕ) (ms : List (List ℕ)) → Valid kind x → All (Valid kind) ms → Pairwise (KeyBelow kind) ms → Pairwise (KeyBelow kind) (put kind x ms)
+  put-pairwise : (x : List ℕ) (ms : List (List ℕ)) → Valid kind x → AllByRecursion (Valid kind) ms → Pairwise (KeyBelow kind) ms → Pairwise (KeyBelow kind) (put kind x ms)
   put-pairwise x [] vx v p = (tt, tt)
   put-pairwise x (m ∷ ms) vx v p = go (put-pairwise x ms vx v.1 p.1) (keys m x) refl
     where

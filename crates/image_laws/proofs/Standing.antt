@@ -2,7 +2,7 @@
 use Rattle.std.proofs.Common.{◌≡◌, ℕ, Bool, true, false, cond, List, [], ◌∷◌, Some, None, filter, Option, Ordering, Less, Equal, Greater, sym, refl, ap, ◌∙◌, ap₂}
 use Rattle.std.specs.Option.{option_or}
 use Rattle.std.specs.Ordering.{is_lt}
-use Rattle.std.specs.List.{AllByRecursion as All}
+use Rattle.std.specs.List.{AllByRecursion}
 use Rattle.std.proofs.ByRecursion.{all_kept_by}
 use Rattle.std.proofs.lemmas.Bool.{both_ways}
 use Rattle.kinds.specs.Kind.{Kind}
@@ -15,7 +15,7 @@ module _ (kind : Kind) (key : List ℕ) where
   standing_by m ms o is = ap (λ o. found_by o m (standing kind key ms)) is
 
   -- nothing, where all are above
-  standing-none : (ms : List (List ℕ)) → All (λ m. compared_with kind key m ≡ Greater) ms → standing kind key ms ≡ None
+  standing-none : (ms : List (List ℕ)) → AllByRecursion (λ m. compared_with kind key m ≡ Greater) ms → standing kind key ms ≡ None
   standing-none [] above = refl
   standing-none (m ∷ ms) above = standing_by m ms Greater above.0
 
@@ -32,11 +32,11 @@ module _ (kind : Kind) (key : List ℕ) where
         kept true = standing_by m (filter taken ms) Less is
         kept false = refl
 
-    parted-none : (ms : List (List ℕ)) → All (λ m. compared_with kind key m ≡ Greater) ms → standing_parted ms ≡ None
+    parted-none : (ms : List (List ℕ)) → AllByRecursion (λ m. compared_with kind key m ≡ Greater) ms → standing_parted ms ≡ None
     parted-none ms above =
         ap₂ option_or (standing-none _ (all_kept_by taken _ ms above)) (standing-none _ (all-part_for separator taken (is_below kind key) _ ms above))
 
-    parted-here : (m : List ℕ) (ms : List (List ℕ)) → (separator m ≡ true → taken m ≡ true) → compared_with kind key m ≡ Equal → All (λ l. compared_with kind key l ≡ Greater) ms → standing_parted (m ∷ ms) ≡ Some m
+    parted-here : (m : List ℕ) (ms : List (List ℕ)) → (separator m ≡ true → taken m ≡ true) → compared_with kind key m ≡ Equal → AllByRecursion (λ l. compared_with kind key l ≡ Greater) ms → standing_parted (m ∷ ms) ≡ Some m
     parted-here m ms among is above = go (separator m) (taken m) refl refl
       where
         go : (s t : Bool) → separator m ≡ s → taken m ≡ t → standing_parted (m ∷ ms) ≡ Some m

@@ -1,6 +1,6 @@
 -- Each node of the tree of a set of messages is sound, so its block is well formed. Assumes nothing.
 use Rattle.std.proofs.Common.{◌≡◌, ℕ, ◌+◌, ◌<◌, ◌≤◌, true, List, length, get_or, le_refl, arith}
-use Rattle.std.specs.List.{ContainsAt as Has, AllByRecursion as All}
+use Rattle.std.specs.List.{ContainsAt as Has, AllByRecursion}
 use Rattle.std.proofs.ByRecursion.{All-get_or, all_has_itself, All-weaker}
 use Rattle.std.proofs.lemmas.Bool.{and_parts}
 use Rattle.kinds.specs.Kind.{Kind, Lawful}
@@ -33,10 +33,10 @@ module _ (kind : Kind) (s : Settings) (ms : List (List ℕ)) (lawful : Lawful ki
   apart : Distinct ms
   apart = messages-apart kind lawful ms set.each set.rising
 
-  filled : All (λ node. 0 < length node.entries) nodes
+  filled : AllByRecursion (λ node. 0 < length node.entries) nodes
   filled = nodes-filled strict s.alpha s.rho l.alpha-low (length ms) 0 1 ms (all_has_itself ms) apart
 
-  rising : All (λ node. Pairwise (KeyBelow kind) node.entries) nodes
+  rising : AllByRecursion (λ node. Pairwise (KeyBelow kind) node.entries) nodes
   rising = nodes-pairwise (KeyBelow kind) (before kind) s.alpha s.rho (length ms) 0 1 ms (messages-rise kind lawful ms set.each set.rising)
 
   onward : Onward (length nodes + 1) 1 nodes
@@ -44,7 +44,7 @@ module _ (kind : Kind) (s : Settings) (ms : List (List ℕ)) (lawful : Lawful ki
       nodes-onward strict s.alpha s.rho l.alpha-low (length nodes + 1) (length ms) 0 1 ms (all_has_itself ms) apart (le_refl (length ms)) (omega arith)
 
   -- no section measures more than 2,000 messages of 1,000 each
-  measures : (node : Node (List ℕ)) → Known kind s ms lawful fit set room node → All (λ sec. total_measure kind sec.members ≤ 2000000) node.sections
+  measures : (node : Node (List ℕ)) → Known kind s ms lawful fit set room node → AllByRecursion (λ sec. total_measure kind sec.members ≤ 2000000) node.sections
   measures node k =
       All-weaker _ _ (λ sec small. omega (arith, measure-le kind lawful sec.members small.0, small.1, room, l.capacity)) node.sections k.bounded.members
 

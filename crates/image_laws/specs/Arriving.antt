@@ -1,7 +1,7 @@
 -- Messages that arrive in any order. Assumes nothing.
 use Rattle.std.specs.Prelude.{◌≡◌, ℕ, List, []}
 use Rattle.std.specs.List.Sorted.{IsPermutation}
-use Rattle.std.specs.List.{AllByRecursion as All}
+use Rattle.std.specs.List.{AllByRecursion}
 use Rattle.kinds.specs.Kind.{Kind, Lawful}
 use Rattle.image.specs.Messages.{Valid, Messages, put_all}
 
@@ -14,7 +14,7 @@ pub record ArrivalLaws (kind : Kind) (xs ys set : List (List ℕ)) : Type 0 wher
 abbrev pub OrderDoesNotMatter : Type 0
 OrderDoesNotMatter =
     (kind : Kind) (xs ys set : List (List ℕ))
-    → Lawful kind → Messages kind set → All (Valid kind) xs → IsPermutation xs ys
+    → Lawful kind → Messages kind set → AllByRecursion (Valid kind) xs → IsPermutation xs ys
     → ArrivalLaws kind xs ys set
 
 -- a set is made of its messages, in whatever order they are put together

@@ -4,7 +4,7 @@ use Rattle.std.proofs.lemmas.List.{take_rest, drop_all, at_drop_more}
 use Rattle.std.proofs.lemmas.Bool.{true≢false, false≢true, cases_Bool, cases_lt, cond-true, cond-false}
 use Rattle.std.specs.Ordering.{nat_cmp as compared}
 use Rattle.std.specs.Ordering.{is_ne, ordering_then}
-use Rattle.std.specs.List.{AllByRecursion as All}
+use Rattle.std.specs.List.{AllByRecursion}
 use Rattle.fields.specs.Numbers.{Bytes, number}
 use Rattle.layout.specs.Layout.{by_fields, first_invalid, value}
 use Rattle.layout.specs.declared.Field.{Field}
@@ -53,7 +53,7 @@ then_equal Equal p h = refl
 then_equal Greater p h = absurd (true≢false h)
 
 -- no field is invalid: each test has passed
-pub tests-passed : (tests : List (ℕ × Bool)) → is_some (first_invalid tests) ≡ false → All (λ test. test.1 ≡ true) tests
+pub tests-passed : (tests : List (ℕ × Bool)) → is_some (first_invalid tests) ≡ false → AllByRecursion (λ test. test.1 ≡ true) tests
 tests-passed [] h = tt
 tests-passed (test ∷ tests) h =
     ⊎_elim (λ passed. (passed, tests-passed tests (sym (ap is_some (cond-true test.1 _ _ passed)) ∙ h)))

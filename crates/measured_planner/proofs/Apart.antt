@@ -1,6 +1,6 @@
 -- Lists with no element twice. Assumes nothing.
 use Rattle.std.proofs.Common.{◌≡◌, ℕ, zero, suc, ◌+◌, ◌<◌, List, [], ◌∷◌, length, get_or, take, drop, sym, ◌∙◌, arith}
-use Rattle.std.specs.List.{ContainsAt as Has, AllByRecursion as All, range_with_len}
+use Rattle.std.specs.List.{ContainsAt as Has, AllByRecursion, range_with_len}
 use Rattle.std.proofs.ByRecursion.{All-get_or}
 use Rattle.std.proofs.lemmas.List.{get_or-take, length-take}
 use Rattle.tree.specs.Laws.{Distinct}
@@ -24,7 +24,7 @@ distinct-drop (suc n) [] apart = tt
 distinct-drop (suc n) (x ∷ xs) apart = distinct-drop n xs apart.1
 
 -- numbers counted up are different
-counting-above : (a b n : ℕ) → a < b → All (λ y. a ≡ y → ⊥) (range_with_len b n)
+counting-above : (a b n : ℕ) → a < b → AllByRecursion (λ y. a ≡ y → ⊥) (range_with_len b n)
 counting-above a b zero h = tt
 counting-above a b (suc n) h = (λ e. omega arith, counting-above a (b + 1) n (omega arith))
 

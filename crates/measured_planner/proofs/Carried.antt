@@ -1,6 +1,6 @@
 -- The plan over ranks, carried to the elements. Assumes nothing.
 use Rattle.std.proofs.Common.{◌≡◌, ℕ, ◌<◌, map, length, get_or, sym, refl, ap, ◌∙◌, arith}
-use Rattle.std.specs.List.{range_with_len, AllByRecursion as All}
+use Rattle.std.specs.List.{range_with_len, AllByRecursion}
 use Rattle.std.proofs.lemmas.List.FromFn.{fill_by_all, get_or-range_with_len, length-range_with_len}
 use Rattle.std.proofs.ByRecursion.{All-from_get_or}
 use Rattle.std.proofs.lemmas.List.{length-map}
@@ -10,7 +10,7 @@ use Rattle.measured_planner.specs.Drawing.{rank_before}
 use Rattle.measured_planner.specs.Plan.{PlanIsTree}
 
 -- numbers counted from 0 are below their number
-pub all-counting : (m n : ℕ) → n ≡ m → All (λ i. i < m) (range_with_len 0 n)
+pub all-counting : (m n : ℕ) → n ≡ m → AllByRecursion (λ i. i < m) (range_with_len 0 n)
 all-counting m n same =
     All-from_get_or (λ i. i < m) (range_with_len 0 n) 0 (λ i h. let below : i < n = omega (arith, length-range_with_len 0 n) in rw (get_or-range_with_len 0 n i 0 below) (omega arith))
 

@@ -1,6 +1,6 @@
 -- The ranks drawn earliest, with one more rank looked at. Assumes nothing.
 use Rattle.std.proofs.Common.{◌≡◌, ℕ, zero, suc, ◌+◌, ◌-◌, ◌<◌, ◌≤◌, min, Bool, true, false, cond, not, ◌&&◌, ltb, ◌⊎◌, List, [], ◌∷◌, ◌++◌, length, get_or, sym, refl, ap, ◌∙◌, inl, inr, ⊎_elim, arith}
-use Rattle.std.specs.List.{ContainsAt as Has, AllByRecursion as All}
+use Rattle.std.specs.List.{ContainsAt as Has, AllByRecursion}
 use Rattle.std.proofs.ByRecursion.{all-has, all_has_itself, All-weaker, has_push, has_append_left}
 use Rattle.std.proofs.lemmas.Bool.{both_ways, cases_order, cases_lt, cases_Bool, lt-ltb, le-ltb, ltb-true, ltb-false}
 use Rattle.tree.specs.Tree.{drawn_before, among_earliest}
@@ -10,7 +10,7 @@ use Rattle.tree.proofs.Lists.{all_join}
 use Rattle.measured_planner.specs.Steps.{Earliest, PlaceMade}
 
 -- what is true of everything is true of each element
-pub all-unit : {X : Type 0} (xs : List X) → All (λ (_ : X). Unit {0}) xs
+pub all-unit : {X : Type 0} (xs : List X) → AllByRecursion (λ (_ : X). Unit {0}) xs
 all-unit [] = tt
 all-unit (x ∷ xs) = (tt, all-unit xs)
 
@@ -96,7 +96,7 @@ module _ {before : ℕ → ℕ → Bool} (strict : Strict (λ (_ : ℕ). Unit {0
               (made.later (j - 1) (omega arith) (omega arith)) (omega arith)
 
   -- what is not drawn after the rank at place j is among the j + 1 earliest
-  pub among-by-last : (xs : List ℕ) (j c : ℕ) → Has xs c → drawn_before before xs c ≡ j → All (λ x. not (before c x) ≡ among_earliest before (j + 1) xs x) xs
+  pub among-by-last : (xs : List ℕ) (j c : ℕ) → Has xs c → drawn_before before xs c ≡ j → AllByRecursion (λ x. not (before c x) ≡ among_earliest before (j + 1) xs x) xs
   among-by-last xs j c has place = All-weaker (Has xs) _ told xs (all_has_itself xs)
     where
       told : (x : ℕ) → Has xs x → not (before c x) ≡ among_earliest before (j + 1) xs x
@@ -122,7 +122,7 @@ module _ {before : ℕ → ℕ → Bool} (strict : Strict (λ (_ : ℕ). Unit {0
       go false h = omega arith
 
   -- so among the k earliest are the same for each k from their number on
-  pub among-enough : (xs : List ℕ) (k m : ℕ) → min k (length xs) ≡ m → All (λ x. among_earliest before m xs x ≡ among_earliest before k xs x) xs
+  pub among-enough : (xs : List ℕ) (k m : ℕ) → min k (length xs) ≡ m → AllByRecursion (λ x. among_earliest before m xs x ≡ among_earliest before k xs x) xs
   among-enough xs k m least = All-weaker (Has xs) _ (λ x has. told x (drawn_before-lt-length xs x has)) xs (all_has_itself xs)
     where
       told : (x : ℕ) → drawn_before before xs x < length xs → among_earliest before m xs x ≡ among_earliest before k xs x
@@ -134,16 +134,16 @@ module _ {before : ℕ → ℕ → Bool} (strict : Strict (λ (_ : ℕ). Unit {0
 
   module _ (xs : List ℕ) (alpha : ℕ) (chosen : List ℕ) (picked : Earliest before xs (min alpha (length xs)) chosen) where
     -- the last of the earliest tells what is among them
-    pub told-by : (k : ℕ) → 0 < k → k ≤ min alpha (length xs) → All (λ x. not (before (get_or chosen (k - 1) 0) x) ≡ among_earliest before k xs x) xs
+    pub told-by : (k : ℕ) → 0 < k → k ≤ min alpha (length xs) → AllByRecursion (λ x. not (before (get_or chosen (k - 1) 0) x) ≡ among_earliest before k xs x) xs
     told-by k some within =
         let place = picked (k - 1) (omega arith) in
         let up : k - 1 + 1 ≡ k = omega arith in
         rw up at (among-by-last xs (k - 1) (get_or chosen (k - 1) 0) place.0 place.1)
 
-    pub block-told : (m : ℕ) → m ≡ min alpha (length xs) → 0 < m → All (λ x. not (before (get_or chosen (m - 1) 0) x) ≡ among_earliest before alpha xs x) xs
+    pub block-told : (m : ℕ) → m ≡ min alpha (length xs) → 0 < m → AllByRecursion (λ x. not (before (get_or chosen (m - 1) 0) x) ≡ among_earliest before alpha xs x) xs
     block-told m least some = all_join (λ x p q. p ∙ q) xs (told-by m some (omega arith)) (among-enough xs alpha m (sym least))
 
     -- and tells it too where there may be none
-    pub active-told : (k s : ℕ) (divides : Bool) → divides ≡ ltb 0 k → k ≤ min alpha (length xs) → (divides ≡ true → s ≡ get_or chosen (k - 1) 0) → All (λ x. (divides && not (before s x)) ≡ among_earliest before k xs x) xs
+    pub active-told : (k s : ℕ) (divides : Bool) → divides ≡ ltb 0 k → k ≤ min alpha (length xs) → (divides ≡ true → s ≡ get_or chosen (k - 1) 0) → AllByRecursion (λ x. (divides && not (before s x)) ≡ among_earliest before k xs x) xs
     active-told k s true test within last = rw (last refl) (told-by k (ltb-true 0 k (sym test)) within)
     active-told k s false test within last = All-weaker (λ _. Unit {0}) _ (λ x _. sym (le-ltb (drawn_before before xs x) k (omega (arith, ltb-false 0 k (sym test))))) xs (all-unit xs)

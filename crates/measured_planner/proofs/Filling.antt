@@ -3,7 +3,7 @@ use Rattle.std.proofs.Common.{◌≡◌, ℕ, suc, ◌+◌, ◌-◌, ◌*◌, �
 use lib.Bits.{bit_or}
 use lib.Count.{ones}
 use lib.Lanes.{mask_l as mask_of}
-use Rattle.std.specs.List.{AllByRecursion as All}
+use Rattle.std.specs.List.{AllByRecursion}
 use Rattle.std.proofs.lemmas.Nat.{or_shifted, or_comm}
 use Rattle.std.proofs.lemmas.List.Elements.{filter-append}
 use Rattle.std.proofs.lemmas.Simd.{mask_l-lt, ones-mask_l}
@@ -66,5 +66,5 @@ place-left p xs i within h =
     rw (parts, here) (omega (arith, length-append (filter p (take i xs)) (get_or xs i 0 ∷ filter p (drop (i + 1) xs))))
 
 -- the mask has a one for each active separator, if those are in the block
-pub ones-marks : (p q : ℕ → Bool) (xs : List ℕ) → All (λ x. q x ≡ true → p x ≡ true) xs → ones (mask_of (map q (filter p xs))) ≡ length (filter q xs)
+pub ones-marks : (p q : ℕ → Bool) (xs : List ℕ) → AllByRecursion (λ x. q x ≡ true → p x ≡ true) xs → ones (mask_of (map q (filter p xs))) ≡ length (filter q xs)
 ones-marks p q xs among = ones-mask_l q (filter p xs) ∙ count_by-kept p q xs among ∙ sym (length-filter q xs)

@@ -3,7 +3,7 @@ use Rattle.std.proofs.Common.{◌≡◌, ℕ, suc, ◌+◌, ◌-◌, ◌*◌, �
 use lib.Count.{ones}
 use lib.Lanes.{mask_l as mask_of}
 use lib.Seq.{sets}
-use Rattle.std.specs.List.{AllByRecursion as All}
+use Rattle.std.specs.List.{AllByRecursion}
 use Rattle.std.proofs.ByRecursion.{all_kept_by, All-weaker, sum_by_le}
 use Rattle.std.proofs.lemmas.List.{length-append, length-map}
 use Rattle.std.proofs.lemmas.List.Sums.{sum_by-append, sum_by-cons}
@@ -39,7 +39,7 @@ pub record Divided (ps : List ℕ) (alpha rho : ℕ) (b : Bounds) (xs : List ℕ
   pub falls : 3 * left_by ps b xs + length (cut_by ps b xs) < 3 * length xs
 
 -- tests that agree on the elements cut alike, and give the same flags
-cut-same : (p p' q q' : ℕ → Bool) (xs : List ℕ) → All (λ x. p x ≡ q x) xs → All (λ x. p' x ≡ q' x) xs → cut p p' xs ≡ cut q q' xs
+cut-same : (p p' q q' : ℕ → Bool) (xs : List ℕ) → AllByRecursion (λ x. p x ≡ q x) xs → AllByRecursion (λ x. p' x ≡ q' x) xs → cut p p' xs ≡ cut q q' xs
 cut-same p p' q q' [] same same' = refl
 cut-same p p' q q' (x ∷ xs) same same' = rw (same.0, same'.0, cut-same p p' q q' xs same.1 same'.1)
 
@@ -48,7 +48,7 @@ module _ (ps : List ℕ) (alpha rho : ℕ) (allowed : Allowed alpha rho) where
   pub subtree-few : (parent k : ℕ) (xs : List ℕ) → Distinct xs → length (subtree ps alpha rho parent k xs) ≤ length xs
   subtree-few parent k xs apart = nodes-few (strict ps) alpha rho allowed.some (length xs) parent k xs (all-unit xs) apart (le_refl (length xs))
 
-  pub forest-few : (parent k : ℕ) (parts : List (List ℕ)) → All Distinct parts → length (forest (subtree ps alpha rho parent) k parts) ≤ length (together parts)
+  pub forest-few : (parent k : ℕ) (parts : List (List ℕ)) → AllByRecursion Distinct parts → length (forest (subtree ps alpha rho parent) k parts) ≤ length (together parts)
   forest-few parent k [] apart = omega arith
   forest-few parent k (s ∷ parts) apart =
       let first = subtree ps alpha rho parent k s in
@@ -72,14 +72,14 @@ module _ (ps : List ℕ) (alpha rho : ℕ) (allowed : Allowed alpha rho) where
   pub subtree-is : (parent k : ℕ) (xs : List ℕ) → 0 < length xs → Distinct xs → subtree ps alpha rho parent k xs ≡ root_node (rank_before ps) alpha rho (subtree ps alpha rho k) parent k xs ∷ forest (subtree ps alpha rho k) (k + 1) (sections (rank_before ps) alpha rho xs)
   subtree-is parent k [] some apart = absurd (omega arith)
   subtree-is parent k (x ∷ xs) some apart =
-      let each : All (λ s. (j : ℕ) → nodes (rank_before ps) alpha rho (length xs) k j s ≡ subtree ps alpha rho k j s) (sections (rank_before ps) alpha rho (x ∷ xs)) =
+      let each : AllByRecursion (λ s. (j : ℕ) → nodes (rank_before ps) alpha rho (length xs) k j s ≡ subtree ps alpha rho k j s) (sections (rank_before ps) alpha rho (x ∷ xs)) =
       each-section (strict ps) alpha rho allowed.some _ (x ∷ xs) some (all-unit (x ∷ xs)) apart
       (λ s w j. fuel-enough (strict ps) alpha rho allowed.some (length xs) (length s) k j s (all-unit s) w.apart (omega (arith, w.shorter)) (le_refl (length s))) in
       rw (numbered-same (nodes (rank_before ps) alpha rho (length xs) k) (subtree ps alpha rho k) (k + 1) _ each, forest-same (nodes (rank_before ps) alpha rho (length xs) k) (subtree ps alpha rho k) (k + 1) _ each)
 
   module _ (b : Bounds) (xs : List ℕ) (some : 0 < length xs) (apart : Distinct xs)
-      (inside : All (λ x. in_block ps b x ≡ among_earliest (rank_before ps) alpha xs x) xs)
-      (dividing : All (λ x. separates ps b x ≡ is_active (rank_before ps) alpha rho xs x) xs) where
+      (inside : AllByRecursion (λ x. in_block ps b x ≡ among_earliest (rank_before ps) alpha xs x) xs)
+      (dividing : AllByRecursion (λ x. separates ps b x ≡ is_active (rank_before ps) alpha rho xs x) xs) where
     pub held-is : held_by ps b xs ≡ block (rank_before ps) alpha xs
     held-is = kept-by-same _ _ xs inside
 
@@ -108,7 +108,7 @@ module _ (ps : List ℕ) (alpha rho : ℕ) (allowed : Allowed alpha rho) where
         left : length (held_by ps b xs) + left_by ps b xs ≡ length xs
         left = rw (held-is, parts_are) (cut-lengths _ _ (active-in-block (rank_before ps) alpha rho xs) xs)
 
-        among : All (λ x. separates ps b x ≡ true → in_block ps b x ≡ true) xs
+        among : AllByRecursion (λ x. separates ps b x ≡ true → in_block ps b x ≡ true) xs
         among = all_join (λ x d i active. i ∙ active-in-block (rank_before ps) alpha rho xs x (sym d ∙ active)) xs dividing inside
 
     module _ (parent k : ℕ) where

@@ -4,7 +4,7 @@ use native.Mathlib.Nat.{sub-zero}
 use borrow.Rule.Slice.PartMut.{post_of}
 use lib.Dec.{eqb-suc-zero}
 use lib.Seq.{sets}
-use Rattle.std.specs.List.{AllByRecursion as All}
+use Rattle.std.specs.List.{AllByRecursion}
 use Rattle.std.proofs.lemmas.List.{map-append, length-append, length-map, length-take-le, take_rest}
 use Rattle.std.proofs.lemmas.Slice.{drop-append-drop}
 use Rattle.std.proofs.lemmas.List.Sums.{sum_by-append}
@@ -30,7 +30,7 @@ module _ (ps : List ℕ) (b : Bounds) (xs : List ℕ) where
     left-first = ap (λ l. length (together l)) are ∙ length-append s (together parts)
 
     pub apart-first : Distinct xs → Distinct s
-    apart-first apart = (subst (All Distinct) are (pairwise-cut (separates ps b) (in_block ps b) _ xs apart)).0
+    apart-first apart = (subst (AllByRecursion Distinct) are (pairwise-cut (separates ps b) (in_block ps b) _ xs apart)).0
 
 -- what the work area holds from `end` on, once ys stands for the first `count` of zs
 abbrev pub rest_of : (zs ys : List ℕ) (count end : ℕ) → List ℕ

@@ -1,7 +1,7 @@
 -- The plan of some entries. Assumes nothing.
 use Rattle.std.specs.Prelude.{◌≡◌, ℕ, ◌+◌, ◌<◌, Bool, cond, ◌&&◌, List, ◌++◌, map, length, get_or, drop, replicate, Some, None, Option, count_ones, nat_le, slice_index_or}
 use Rattle.std.specs.Simd.Lanes.{mask_l as mask_of}
-use Rattle.std.specs.List.{range_with_len, AllByRecursion as All}
+use Rattle.std.specs.List.{range_with_len, AllByRecursion}
 use Rattle.tree.specs.Laws.{map_node}
 use Rattle.tree.specs.Tree.{Node, tree}
 use Rattle.measured_planner.specs.declared.extent.Extent.{Extent}
@@ -41,7 +41,7 @@ module _ (priorities : List ℕ) where
 
 -- in a row the ones of the mask are one fewer than the sections
 abbrev pub MaskTellsSections : (priorities : List ℕ) (alpha rho : ℕ) → Type 0
-MaskTellsSections priorities alpha rho = All (λ node. count_ones (mask_of node.active) + 1 ≡ length node.sections) (rank_tree priorities alpha rho)
+MaskTellsSections priorities alpha rho = AllByRecursion (λ node. count_ones (mask_of node.active) + 1 ≡ length node.sections) (rank_tree priorities alpha rho)
 
 -- the plan of any elements, in key order, is their tree: with priorities that draw their ranks as the elements are drawn, the tree
 -- of the ranks is that of the elements, with each element in the place of its rank (d stands past the end)

@@ -1,7 +1,7 @@
 -- A parcel is accepted exactly if it was written, and what is read is what was written. Assumes nothing.
 use Rattle.std.proofs.Common.{◌≡◌, ℕ, zero, suc, ◌-◌, ◌≤◌, Bool, true, false, cond, List, [], ◌∷◌, ◌++◌, length, get_or, drop, Some, None, Ok, Err, Option, Result, sym, refl, ap, ◌∙◌, subst, ap₂, arith}
 use Rattle.std.specs.Result.{result_map_both}
-use Rattle.std.specs.List.{flat_map, AllByRecursion as All}
+use Rattle.std.specs.List.{flat_map, AllByRecursion}
 use Rattle.std.proofs.ByRecursion.{All-drop}
 use Rattle.std.proofs.lemmas.Slice.Eq.{bytes_eq-Decides}
 use Rattle.std.proofs.lemmas.List.{length-append, take_at, drop_at, drop_more}
@@ -23,14 +23,14 @@ item-written : (width : ℕ) (x : ItemValue) (rest : List ℕ) → ItemFits widt
 item-written width (message bs) rest fits = rw (← fits) (cut-written message bs rest)
 item-written width (note bs) rest fits = cut-written note bs rest
 
-items-written : (width total : ℕ) (xs : List ItemValue) → All (ItemFits width) xs → read_items width total (length xs) (flat_map encode_item xs) ≡ Ok xs
+items-written : (width total : ℕ) (xs : List ItemValue) → AllByRecursion (ItemFits width) xs → read_items width total (length xs) (flat_map encode_item xs) ≡ Ok xs
 items-written width total [] fits = refl
 items-written width total (x ∷ xs) fits = rw (item-written width x (flat_map encode_item xs) fits.0, items-written width total xs fits.1)
 
 -- items that are read were written
 pub record Written (width n : ℕ) (bytes : List ℕ) (xs : List ItemValue) : Type 0 where
   pub bytes-are : bytes ≡ flat_map encode_item xs
-  pub fit : All (ItemFits width) xs
+  pub fit : AllByRecursion (ItemFits width) xs
   pub counted : length xs ≡ n
 
 err-ok : {X E : Type 0} {x : X} {e : E} → Err e ≡ Ok x → ⊥
@@ -39,7 +39,7 @@ err-ok is = let z : ◌≡◌ {A = ℕ} 0 1 = cc in omega arith
 same_ok : {X E : Type 0} {x y : X} → ◌≡◌ {A = Result X E} (Ok x) (Ok y) → x ≡ y
 same_ok is = cc
 
-all_after : {X : Type 0} (P : X → Type 0) (xs ys : List X) → All P (xs ++ ys) → All P ys
+all_after : {X : Type 0} (P : X → Type 0) (xs ys : List X) → AllByRecursion P (xs ++ ys) → AllByRecursion P ys
 all_after P [] ys h = h
 all_after P (x ∷ xs) ys h = all_after P xs ys h.1
 

@@ -1,6 +1,6 @@
 -- What a parcel holds, and how it is written down. Assumes nothing.
 use Rattle.std.specs.Prelude.{◌≡◌, ℕ, ◌^◌, ◌<◌, List, ◌∷◌, ◌++◌, length, codes}
-use Rattle.std.specs.List.{flat_map, AllByRecursion as All}
+use Rattle.std.specs.List.{flat_map, AllByRecursion}
 use Rattle.fields.specs.Numbers.{le}
 
 -- what an item holds: the bytes of a message, or those of a note
@@ -43,4 +43,4 @@ ItemFits width (note bs) = length bs < 256
 pub record Fits (width : ℕ) (c : Contents) : Type 0 where
   pub chapter : c.chapter < 256 ^ 4
   pub count : length c.items < 256 ^ 2
-  pub each : All (ItemFits width) c.items
+  pub each : AllByRecursion (ItemFits width) c.items

@@ -2,7 +2,7 @@
 use Rattle.std.proofs.Common.{◌≡◌, ℕ, suc, ◌+◌, ◌-◌, ◌*◌, ◌^◌, ◌<◌, Bool, true, false, cond, List, [], ◌∷◌, ◌++◌, map, length, get_or, take, drop, set, replicate, filter, sym, refl, ap, ◌∙◌, one-mul, pow-suc, arith}
 use lib.Bits.{bit_or}
 use lib.Count.{ones, ones_in, ones_cat}
-use Rattle.std.specs.List.{AllByRecursion as All}
+use Rattle.std.specs.List.{AllByRecursion}
 use Rattle.std.proofs.lemmas.Nat.{or_shifted, or_comm}
 use Rattle.std.proofs.lemmas.List.Elements.{filter-append}
 use Rattle.std.proofs.lemmas.List.{append-nil, append_assoc, length-append, length_push, length-map, map_push, set_at, take-append-drop, drop_more}
@@ -81,7 +81,7 @@ ones-bits [] = ones-zero
 ones-bits (true ∷ bs) = ap ones (omega arith) ∙ ones_cat 1 (bits bs) 1 (omega arith) ∙ omega (arith, ones-bits bs, ones-one)
 ones-bits (false ∷ bs) = ap ones (omega arith) ∙ ones_cat 1 (bits bs) 0 (omega arith) ∙ omega (arith, ones-bits bs, ones-zero)
 
-marks-kept : (p q : ℕ → Bool) (xs : List ℕ) → All (λ x. q x ≡ true → p x ≡ true) xs → length (filter (λ b. b) (map q (filter p xs))) ≡ length (filter q xs)
+marks-kept : (p q : ℕ → Bool) (xs : List ℕ) → AllByRecursion (λ x. q x ≡ true → p x ≡ true) xs → length (filter (λ b. b) (map q (filter p xs))) ≡ length (filter q xs)
 marks-kept p q [] among = refl
 marks-kept p q (x ∷ xs) among = go (p x) (q x) refl among.0 (marks-kept p q xs among.1)
   where
@@ -91,5 +91,5 @@ marks-kept p q (x ∷ xs) among = go (p x) (q x) refl among.0 (marks-kept p q xs
     go false true e h rest = absurd (both_ways false refl (h refl))
     go false false e h rest = rest
 
-pub ones-marks : (p q : ℕ → Bool) (xs : List ℕ) → All (λ x. q x ≡ true → p x ≡ true) xs → ones (bits (map q (filter p xs))) ≡ length (filter q xs)
+pub ones-marks : (p q : ℕ → Bool) (xs : List ℕ) → AllByRecursion (λ x. q x ≡ true → p x ≡ true) xs → ones (bits (map q (filter p xs))) ≡ length (filter q xs)
 ones-marks p q xs among = ones-bits (map q (filter p xs)) ∙ marks-kept p q xs among

@@ -1,6 +1,6 @@
 // Which ranks of a subtree its block holds, and which of them are active separators.
 ghost use Rattle.std.specs.Prelude.{◌≡◌, ◌<◌, ◌≤◌, length};
-ghost use Rattle.std.specs.List.{AllByRecursion as All};
+ghost use Rattle.std.specs.List.{AllByRecursion};
 ghost use Rattle.tree.specs.Laws.{Distinct};
 ghost use Rattle.tree.specs.Tree.{fan_out, among_earliest, is_active};
 ghost use Rattle.planner.specs.Drawing.{rank_before};
@@ -35,8 +35,8 @@ impl Bounds {
         requires some { 0 < length ranks.now }
         requires few { length ranks.now ≤ 2000 }
         requires apart { Distinct ranks.now }
-        ensures block { All (λ x. in_block priorities.now result x ≡ among_earliest (rank_before priorities.now) alpha ranks.now x) ranks.now }
-        ensures active { All (λ x. separates priorities.now result x ≡ is_active (rank_before priorities.now) alpha rho ranks.now x) ranks.now }
+        ensures block { AllByRecursion (λ x. in_block priorities.now result x ≡ among_earliest (rank_before priorities.now) alpha ranks.now x) ranks.now }
+        ensures active { AllByRecursion (λ x. separates priorities.now result x ≡ is_active (rank_before priorities.now) alpha rho ranks.now x) ranks.now }
     {
         let chosen = earliest(priorities, ranks, alpha);
         let separators = fan_out(alpha, rho, ranks.len()) - 1;

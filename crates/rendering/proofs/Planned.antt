@@ -2,7 +2,7 @@
 use Rattle.std.proofs.Common.{◌≡◌, ℕ, ◌+◌, ◌-◌, ◌*◌, ◌<◌, ◌≤◌, true, List, [], ◌∷◌, ◌++◌, map, length, get_or, take, replicate, sym, refl, ap, ◌∙◌, ap₂, mul-le-mul_right, arith}
 use lib.Count.{ones}
 use lib.Lanes.{mask_l as mask_of}
-use Rattle.std.specs.List.{range_with_len, flat_map, AllByRecursion as All}
+use Rattle.std.specs.List.{range_with_len, flat_map, AllByRecursion}
 use Rattle.std.proofs.lemmas.List.{append-nil, get_or-map, length-map, take_at}
 use Rattle.std.proofs.lemmas.List.FromFn.{length-range_with_len}
 use Rattle.std.proofs.ByRecursion.{All-map, All-weaker}
@@ -40,7 +40,7 @@ use Rattle.rendering.specs.Rendered.{ranks_of, row_record, message_at, in_table,
 front-filled : {X : Type 0} (n : ℕ) (blank : X) (xs : List X) (k : ℕ) → length xs ≡ k → take k (filled n blank xs) ≡ xs
 front-filled n blank xs k long = take_at xs (replicate (n - length xs) blank) k long
 
-module _ (kind : Kind) (ms : List (List ℕ)) (wide : All (λ m. length m ≡ kind.width) ms) where
+module _ (kind : Kind) (ms : List (List ℕ)) (wide : AllByRecursion (λ m. length m ≡ kind.width) ms) where
   abbrev Rank : ℕ → Type 0
   Rank i = i < length ms
 
@@ -51,7 +51,7 @@ module _ (kind : Kind) (ms : List (List ℕ)) (wide : All (λ m. length m ≡ ki
   present i inside = le-leb _ (length (table_of ms)) (omega (arith, length-joined (λ m. m) kind.width ms wide, mul-le-mul_right kind.width inside))
 
   -- the sum of the measures, by the list of them
-  sums : (ranks : List ℕ) → All Rank ranks → measure_of (measures_of kind ms) ranks ≡ total_measure kind (map (λ i. get_or ms i []) ranks)
+  sums : (ranks : List ℕ) → AllByRecursion Rank ranks → measure_of (measures_of kind ms) ranks ≡ total_measure kind (map (λ i. get_or ms i []) ranks)
   sums [] all = refl
   sums (i ∷ ranks) all =
       sum_by-cons (λ j. get_or (measures_of kind ms) j 0) i ranks
@@ -62,10 +62,10 @@ module _ (kind : Kind) (ms : List (List ℕ)) (wide : All (λ m. length m ≡ ki
   abbrev carried : Section ℕ → Section (List ℕ)
   carried s = record { number = s.number; members = map (λ i. get_or ms i []) s.members }
 
-  record_is : (s : Section ℕ) → All Rank s.members → row_record (section_row (measures_of kind ms) s) ≡ section_record kind (carried s)
+  record_is : (s : Section ℕ) → AllByRecursion Rank s.members → row_record (section_row (measures_of kind ms) s) ≡ section_record kind (carried s)
   record_is s inside = ap₂ (record_of s.number) (sym (length-map s.members (λ i. get_or ms i []))) (sums s.members inside)
 
-  records-are : (sections : List (Section ℕ)) → All (λ s. All Rank s.members) sections → flat_map row_record (map (section_row (measures_of kind ms)) sections) ≡ flat_map (section_record kind) (map carried sections)
+  records-are : (sections : List (Section ℕ)) → AllByRecursion (λ s. AllByRecursion Rank s.members) sections → flat_map row_record (map (section_row (measures_of kind ms)) sections) ≡ flat_map (section_record kind) (map carried sections)
   records-are [] all = refl
   records-are (s ∷ sections) all = ap₂ ◌++◌ (record_is s all.0) (records-are sections all.1)
 
@@ -95,7 +95,7 @@ record Known (s : Settings) (n : ℕ) (node : Node ℕ) : Type 0 where
   few : length node.entries ≤ s.alpha
   bounded : Bounded (λ i. i < n) n node
 
-known : (s : Settings) (priorities : List ℕ) (n : ℕ) → Limits s → length priorities ≡ n → All (Known s n) (rank_tree priorities s.alpha s.rho)
+known : (s : Settings) (priorities : List ℕ) (n : ℕ) → Limits s → length priorities ≡ n → AllByRecursion (Known s n) (rank_tree priorities s.alpha s.rho)
 known s priorities n l same =
     let ranks = range_with_len 0 (length priorities) in
     let long : length ranks ≤ n = omega (arith, length-range_with_len 0 (length priorities), same) in

@@ -1,6 +1,6 @@
 -- What is true of the blocks that are rendered from a plan. Assumes nothing.
 use Rattle.std.specs.Prelude.{◌≡◌, ℕ, true, List, map}
-use Rattle.std.specs.List.{flat_map, AllByRecursion as All}
+use Rattle.std.specs.List.{flat_map, AllByRecursion}
 use Rattle.drawing.specs.Drawing.{priority}
 use Rattle.kinds.specs.Kind.{Kind, Lawful}
 use Rattle.measured_planner.specs.declared.row.Row.{Row}
@@ -30,7 +30,7 @@ module _ (kind : Kind) where
 
 -- each row of a plan can be rendered, and the blocks of all of them are the tree blocks of the image, in their order
 pub record RenderLaws (kind : Kind) (s : Settings) (ms : List (List ℕ)) : Type 0 where
-  pub possible : All (λ row. renderable kind s.alpha (table_of ms) row ≡ true) (plan_of kind s ms)
+  pub possible : AllByRecursion (λ row. renderable kind s.alpha (table_of ms) row ≡ true) (plan_of kind s ms)
   pub blocks : map (row_block kind s.alpha (table_of ms)) (plan_of kind s ms) ≡ map (tree_block kind s.alpha) (tree_of kind s ms)
 
 -- for any set of messages of a lawful kind, and settings that fit

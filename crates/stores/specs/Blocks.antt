@@ -1,12 +1,12 @@
 -- What a block store means: a list of blocks, and the answer and the effect of every call as functions of that list.
 -- Assumes nothing.
 use Rattle.std.specs.Prelude.{◌≡◌, ℕ, ◌≤◌, cond, List, [], length, is_ok, Ok, Err, Result, ◌==◌, nat_lt, slice_index_or, slice_set}
-use Rattle.std.specs.List.{AllByRecursion as All}
+use Rattle.std.specs.List.{AllByRecursion}
 
 -- what is true of the blocks of every store: there are at most 65,535, and each has 256 bytes
 pub record Storable (blocks : List (List ℕ)) : Type 0 where
   pub few : length blocks ≤ 65535
-  pub sized : All (λ block. length block ≡ 256) blocks
+  pub sized : AllByRecursion (λ block. length block ≡ 256) blocks
 
 -- the tests of a read and of a write: the buffer's length comes first, then the block
 abbrev pub access_answer : ℕ → ℕ → ℕ → Result (Unit {0}) (ℕ × ℕ)

@@ -3,7 +3,7 @@
 use Rattle.std.specs.Prelude.{◌≡◌, ℕ, zero, suc, ◌+◌, ◌*◌, ◌<◌, ◌≤◌, List, [], ◌∷◌, ◌++◌, length, take, drop, slice_index_or, slice_set, refl}
 use Rattle.std.proofs.Common.{sym, ap, ap₂, ◌∙◌, take-add, arith}
 use borrow.Rule.Slice.PartMut.{put_mid}
-use Rattle.std.specs.List.{flat_map, AllByRecursion as All}
+use Rattle.std.specs.List.{flat_map, AllByRecursion}
 use Rattle.std.proofs.lemmas.List.{append_assoc, drop_at, drop-drop, length-append, length-drop, length-take, length-take-le, take-append-drop, take_at}
 use Rattle.std.proofs.lemmas.Slice.{drop-put_mid}
 use Rattle.stores.specs.Blocks.{Storable}
@@ -13,7 +13,7 @@ pub length_cut : (k : ℕ) (bytes : List ℕ) → length (cut k bytes) ≡ k
 length_cut zero bytes = refl
 length_cut (suc k) bytes = ap suc (length_cut k (drop 256 bytes))
 
-pub sized-cut : (k : ℕ) (bytes : List ℕ) → k * 256 ≤ length bytes → All (λ block. length block ≡ 256) (cut k bytes)
+pub sized-cut : (k : ℕ) (bytes : List ℕ) → k * 256 ≤ length bytes → AllByRecursion (λ block. length block ≡ 256) (cut k bytes)
 sized-cut zero bytes h = tt
 sized-cut (suc k) bytes h =
     (length-take-le 256 bytes (omega arith), sized-cut k (drop 256 bytes) (simp length-drop (omega arith)))

@@ -1,6 +1,6 @@
 -- Bounds on what nodes hold, whatever the drawing order. Assumes nothing.
 use Rattle.std.proofs.Common.{◌≡◌, ℕ, zero, suc, ◌+◌, ◌≤◌, Bool, true, false, cond, List, [], ◌∷◌, map, length, count_by, filter, refl, ap, ◌∙◌, add-zero, arith}
-use Rattle.std.specs.List.{AllByRecursion as All}
+use Rattle.std.specs.List.{AllByRecursion}
 use Rattle.std.proofs.ByRecursion.{All-append, all_kept_by, All-weaker}
 use Rattle.std.proofs.lemmas.List.{length-append, length-map}
 use Rattle.std.proofs.lemmas.List.Sums.{sum_by-cons}
@@ -30,26 +30,26 @@ flags-kept narrow wide within (x ∷ xs) = go (narrow x) (wide x) refl (within x
 -- a node of a subtree of at most n elements, all of which P holds, in a tree of numbers up to top: a flag for each entry, one
 -- section more than flags are set
 pub record Bounded {X : Type 0} (P : X → Type 0) (n : ℕ) (node : Node X) : Type 0 where
-  pub entries : All P node.entries
+  pub entries : AllByRecursion P node.entries
   pub flags : length node.active ≡ length node.entries
   pub fan : length node.sections ≡ count_by (λ b. b) node.active + 1
   pub weight : node.weight ≤ n
-  pub members : All (λ s. All P s.members × (length s.members ≤ n)) node.sections
+  pub members : AllByRecursion (λ s. AllByRecursion P s.members × (length s.members ≤ n)) node.sections
 
 module _ {X : Type 0} (before : X → X → Bool) (alpha rho : ℕ) where
   -- no section has more elements than there are
-  section-le : (xs : List X) → All (λ s. length s ≤ length xs) (sections before alpha rho xs)
+  section-le : (xs : List X) → AllByRecursion (λ s. length s ≤ length xs) (sections before alpha rho xs)
   section-le xs =
       let lengths = cut-lengths _ _ (active-in-block before alpha rho xs) xs in
       All-weaker _ _ (λ s h. omega (arith, lengths)) _ (part-le-together (sections before alpha rho xs))
 
   module _ (P : X → Type 0) (n : ℕ) where
     abbrev Small : List X → Type 0
-    Small xs = All P xs × (length xs ≤ n)
+    Small xs = AllByRecursion P xs × (length xs ≤ n)
 
-    small-sections : (xs : List X) → Small xs → All Small (sections before alpha rho xs)
+    small-sections : (xs : List X) → Small xs → AllByRecursion Small (sections before alpha rho xs)
     small-sections xs h =
-        all_both (All P) (λ s. length s ≤ n) _ (all-cut (is_active before alpha rho xs) (among_earliest before alpha xs) P xs h.0) (All-weaker (λ s. length s ≤ length xs) (λ s. length s ≤ n) (λ s l. omega (arith, h.1)) _ (section-le xs))
+        all_both (AllByRecursion P) (λ s. length s ≤ n) _ (all-cut (is_active before alpha rho xs) (among_earliest before alpha xs) P xs h.0) (All-weaker (λ s. length s ≤ length xs) (λ s. length s ≤ n) (λ s l. omega (arith, h.1)) _ (section-le xs))
 
     root-bounded : (below : ℕ → List X → List (Node X)) (parent k : ℕ) (xs : List X) → Small xs → Bounded P n (root_node before alpha rho below parent k xs)
     root-bounded below parent k xs h = record {
@@ -60,7 +60,7 @@ module _ {X : Type 0} (before : X → X → Bool) (alpha rho : ℕ) where
       members = all-numbered below Small (k + 1) (sections before alpha rho xs) (small-sections xs h);
     }
 
-    pub nodes-bounded : (fuel parent k : ℕ) (xs : List X) → All P xs → length xs ≤ n → All (Bounded P n) (nodes before alpha rho fuel parent k xs)
+    pub nodes-bounded : (fuel parent k : ℕ) (xs : List X) → AllByRecursion P xs → length xs ≤ n → AllByRecursion (Bounded P n) (nodes before alpha rho fuel parent k xs)
     nodes-bounded zero parent k xs all short = tt
     nodes-bounded (suc fuel) parent k [] all short = tt
     nodes-bounded (suc fuel) parent k (x ∷ xs) all short = (
@@ -71,10 +71,10 @@ module _ {X : Type 0} (before : X → X → Bool) (alpha rho : ℕ) where
 -- block numbers: no section and no parent has a number past the end of the tree
 pub record Numbered {X : Type 0} (top : ℕ) (node : Node X) : Type 0 where
   pub parent : node.parent ≤ top
-  pub sections : All (λ s. s.number ≤ top) node.sections
+  pub sections : AllByRecursion (λ s. s.number ≤ top) node.sections
 
 module _ {X : Type 0} (below : ℕ → List X → List (Node X)) (empty : (j : ℕ) → below j [] ≡ []) (top : ℕ) where
-  numbers-le : (k : ℕ) (parts : List (List X)) → k + length (forest below k parts) ≤ top → All (λ s. s.number ≤ top) (numbered below k parts)
+  numbers-le : (k : ℕ) (parts : List (List X)) → k + length (forest below k parts) ≤ top → AllByRecursion (λ s. s.number ≤ top) (numbered below k parts)
   numbers-le k [] h = tt
   numbers-le k ([] ∷ parts) h =
       let same : forest below k ([] ∷ parts) ≡ forest below k parts = rw empty (ap (λ j. forest below j parts) (add-zero k)) in
@@ -83,7 +83,7 @@ module _ {X : Type 0} (below : ℕ → List X → List (Node X)) (empty : (j : �
       let whole = length-append (below k (x ∷ s)) (forest below (k + length (below k (x ∷ s))) parts) in
       (omega arith, numbers-le (k + length (below k (x ∷ s))) parts (omega (arith, h, whole)))
 
-  forest-numbered : ((j : ℕ) (s : List X) → j + length (below j s) ≤ top → All (Numbered top) (below j s)) → (k : ℕ) (parts : List (List X)) → k + length (forest below k parts) ≤ top → All (Numbered top) (forest below k parts)
+  forest-numbered : ((j : ℕ) (s : List X) → j + length (below j s) ≤ top → AllByRecursion (Numbered top) (below j s)) → (k : ℕ) (parts : List (List X)) → k + length (forest below k parts) ≤ top → AllByRecursion (Numbered top) (forest below k parts)
   forest-numbered each k [] h = tt
   forest-numbered each k (s ∷ parts) h =
       let whole = length-append (below k s) (forest below (k + length (below k s)) parts) in
@@ -94,7 +94,7 @@ module _ {X : Type 0} (before : X → X → Bool) (alpha rho : ℕ) where
   no-nodes zero parent k = refl
   no-nodes (suc fuel) parent k = refl
 
-  pub nodes-numbered : (top fuel parent k : ℕ) (xs : List X) → parent ≤ top → k + length (nodes before alpha rho fuel parent k xs) ≤ top → All (Numbered top) (nodes before alpha rho fuel parent k xs)
+  pub nodes-numbered : (top fuel parent k : ℕ) (xs : List X) → parent ≤ top → k + length (nodes before alpha rho fuel parent k xs) ≤ top → AllByRecursion (Numbered top) (nodes before alpha rho fuel parent k xs)
   nodes-numbered top zero parent k xs low h = tt
   nodes-numbered top (suc fuel) parent k [] low h = tt
   nodes-numbered top (suc fuel) parent k (x ∷ xs) low h =

@@ -1,6 +1,6 @@
 -- How many elements are drawn before one, and how many are among the k drawn earliest. Assumes nothing.
 use Rattle.std.proofs.Common.{◌≡◌, ℕ, ◌+◌, ◌-◌, ◌<◌, ◌≤◌, min, Bool, true, false, cond, ltb, ◌⊎◌, List, [], ◌∷◌, length, filter, refl, inl, inr, ⊎_elim, arith}
-use Rattle.std.specs.List.{AllByRecursion as All}
+use Rattle.std.specs.List.{AllByRecursion}
 use Rattle.std.proofs.ByRecursion.{All-weaker}
 use Rattle.std.proofs.lemmas.Bool.{both_ways, lt-ltb, le-ltb, cases_lt, cond-true, cond-false}
 use Rattle.std.proofs.lemmas.Bool.Decides.{same_from_decides, Decides-like, Decides-ltb}
@@ -40,14 +40,14 @@ shifted_past k r past m n shifted = ltb-same m k n k (λ h. omega arith) (λ h. 
 
 module _ {X : Type 0} {P : X → Type 0} {before : X → X → Bool} (strict : Strict P before) where
   -- what is drawn earlier has no more drawn before it
-  pub drawn_before-le : (xs : List X) (a b : X) → All P xs → P a → P b → before a b ≡ true → drawn_before before xs a ≤ drawn_before before xs b
+  pub drawn_before-le : (xs : List X) (a b : X) → AllByRecursion P xs → P a → P b → before a b ≡ true → drawn_before before xs a ≤ drawn_before before xs b
   drawn_before-le [] a b all pa pb earlier = omega arith
   drawn_before-le (y ∷ ys) a b all pa pb earlier =
       let rest = drawn_before-le ys a b all.1 pa pb earlier in
       omega (arith, count-gap 0 (before y a) (before y b) (drawn_before before ys a) (drawn_before before ys b) (λ h. strict.transitive y a b all.0 pa pb h earlier) (omega arith))
 
   -- and fewer, if it is one of the elements itself
-  pub drawn_before-lt : (xs : List X) (b : X) → All P xs → P b → All (λ a. before a b ≡ true → drawn_before before xs a < drawn_before before xs b) xs
+  pub drawn_before-lt : (xs : List X) (b : X) → AllByRecursion P xs → P b → AllByRecursion (λ a. before a b ≡ true → drawn_before before xs a < drawn_before before xs b) xs
   drawn_before-lt [] b all pb = tt
   drawn_before-lt (x ∷ xs) b all pb = (
     λ earlier. rw (strict.irreflexive x all.0, earlier) (omega (arith, drawn_before-le xs x b all.1 all.0 pb earlier)),
@@ -75,7 +75,7 @@ module _ {X : Type 0} {P : X → Type 0} {before : X → X → Bool} (strict : S
       go false false e f = absurd (apart (strict.connected x y px py e f))
 
   -- how x in front of the others shifts the counts
-  pub drawn_before-cons : (x : X) (xs : List X) → All P (x ∷ xs) → Distinct (x ∷ xs) → All (λ y. Shifted (drawn_before before xs x) (drawn_before before (x ∷ xs) y) (drawn_before before xs y)) xs
+  pub drawn_before-cons : (x : X) (xs : List X) → AllByRecursion P (x ∷ xs) → Distinct (x ∷ xs) → AllByRecursion (λ y. Shifted (drawn_before before xs x) (drawn_before before (x ∷ xs) y) (drawn_before before xs y)) xs
   drawn_before-cons x xs all apart =
       all_join (λ y p. shift y p.0 p.1) xs (all_both P (λ y. x ≡ y → ⊥) xs all.1 apart.0) (drawn_before-lt xs x all.1 all.0)
     where
@@ -87,7 +87,7 @@ module _ {X : Type 0} {P : X → Type 0} {before : X → X → Bool} (strict : S
           (one-first x y all.0 py differ)
 
   -- of different elements k are among the k earliest, or all if they are fewer
-  pub earliest-count : (k : ℕ) (xs : List X) → All P xs → Distinct xs → length (filter (among_earliest before k xs) xs) ≡ min k (length xs)
+  pub earliest-count : (k : ℕ) (xs : List X) → AllByRecursion P xs → Distinct xs → length (filter (among_earliest before k xs) xs) ≡ min k (length xs)
   earliest-count k [] all apart = omega arith
   earliest-count k (x ∷ xs) all apart =
       ⊎_elim

@@ -1,7 +1,7 @@
 -- A list cut at its separators: how many parts there are, and what is in them. Assumes nothing.
 use Rattle.std.proofs.Common.{◌≡◌, ◌+◌, ◌<◌, ◌≤◌, max, Bool, true, false, cond, List, [], ◌∷◌, ◌++◌, length, filter, sym, refl, ◌∙◌, arith}
 use Rattle.std.specs.List.Sorted.{IsPermutation}
-use Rattle.std.specs.List.{flat_map, AllByRecursion as All}
+use Rattle.std.specs.List.{flat_map, AllByRecursion}
 use Rattle.std.proofs.ByRecursion.{All-weaker}
 use Rattle.std.proofs.lemmas.List.{length-append}
 use Rattle.std.proofs.lemmas.List.Sorted.{IsPermutation-refl, IsPermutation-cons, IsPermutation-trans, length_permutation}
@@ -23,7 +23,7 @@ together-into_first : {X : Type 0} (x : X) (parts : List (List X)) → together 
 together-into_first x [] = refl
 together-into_first x (s ∷ parts) = refl
 
-into_first-all : {X : Type 0} (Q : List X → Type 0) (x : X) (parts : List (List X)) → Q (x ∷ []) → All Q parts → All (λ s. Q (x ∷ s)) parts → All Q (into_first x parts)
+into_first-all : {X : Type 0} (Q : List X → Type 0) (x : X) (parts : List (List X)) → Q (x ∷ []) → AllByRecursion Q parts → AllByRecursion (λ s. Q (x ∷ s)) parts → AllByRecursion Q (into_first x parts)
 into_first-all Q x [] alone each more = (alone, tt)
 into_first-all Q x (s ∷ parts) alone each more = (more.0, each.1)
 
@@ -31,13 +31,13 @@ into_first-all Q x (s ∷ parts) alone each more = (more.0, each.1)
 abbrev pub cut_step : {X : Type 0} → X → (separates is_taken : Bool) → List (List X) → List (List X)
 cut_step x separates is_taken rest = cond separates ([] ∷ rest) (cond is_taken rest (into_first x rest))
 
-all-cut_step : {X : Type 0} (Q : List X → Type 0) (x : X) (s t : Bool) (rest : List (List X)) → Q [] → All Q rest → (t ≡ false → All Q (into_first x rest)) → All Q (cut_step x s t rest)
+all-cut_step : {X : Type 0} (Q : List X → Type 0) (x : X) (s t : Bool) (rest : List (List X)) → Q [] → AllByRecursion Q rest → (t ≡ false → AllByRecursion Q (into_first x rest)) → AllByRecursion Q (cut_step x s t rest)
 all-cut_step Q x true t rest none each more = (none, each)
 all-cut_step Q x false true rest none each more = each
 all-cut_step Q x false false rest none each more = more refl
 
 -- no part is longer than all parts together
-pub part-le-together : {X : Type 0} (parts : List (List X)) → All (λ s. length s ≤ length (together parts)) parts
+pub part-le-together : {X : Type 0} (parts : List (List X)) → AllByRecursion (λ s. length s ≤ length (together parts)) parts
 part-le-together [] = tt
 part-le-together (s ∷ parts) =
     let whole : length (together (s ∷ parts)) ≡ length s + length (together parts) = length-append s (together parts) in
@@ -67,29 +67,29 @@ module _ {X : Type 0} (separator taken : X → Bool) where
           rw together-into_first (IsPermutation-trans _ _ _ (IsPermutation-cons x _ _ same) (shuffled-middle x kept (together rest)))
 
   -- what is true of each element is true of each in the parts, and none of those is taken
-  pub all_left : (Q : X → Type 0) (xs : List X) → All Q xs → All (All (λ x. Q x × (taken x ≡ false))) (cut separator taken xs)
+  pub all_left : (Q : X → Type 0) (xs : List X) → AllByRecursion Q xs → AllByRecursion (AllByRecursion (λ x. Q x × (taken x ≡ false))) (cut separator taken xs)
   all_left Q [] all = (tt, tt)
   all_left Q (x ∷ xs) all =
       let rest = all_left Q xs all.1 in
       all-cut_step _ x (separator x) (taken x) _ tt rest (λ free. into_first-all _ x _ ((all.0, free), tt) rest (All-weaker _ _ (λ s h. ((all.0, free), h)) _ rest))
 
-  pub all-cut : (Q : X → Type 0) (xs : List X) → All Q xs → All (All Q) (cut separator taken xs)
+  pub all-cut : (Q : X → Type 0) (xs : List X) → AllByRecursion Q xs → AllByRecursion (AllByRecursion Q) (cut separator taken xs)
   all-cut Q xs all = All-weaker _ _ (λ s. All-weaker (λ x. Q x × (taken x ≡ false)) Q (λ x h. h.0) s) _ (all_left Q xs all)
 
   -- no part has an element twice
-  pub distinct-cut : (xs : List X) → Distinct xs → All Distinct (cut separator taken xs)
+  pub distinct-cut : (xs : List X) → Distinct xs → AllByRecursion Distinct (cut separator taken xs)
   distinct-cut [] apart = (tt, tt)
   distinct-cut (x ∷ xs) apart =
       let rest = distinct-cut xs apart.1 in
-      let longer : All (λ s. Distinct (x ∷ s)) (cut separator taken xs) = all_both _ _ _ (all-cut (λ y. x ≡ y → ⊥) xs apart.0) rest in
+      let longer : AllByRecursion (λ s. Distinct (x ∷ s)) (cut separator taken xs) = all_both _ _ _ (all-cut (λ y. x ≡ y → ⊥) xs apart.0) rest in
       all-cut_step Distinct x (separator x) (taken x) _ tt rest (λ free. into_first-all Distinct x _ (tt, tt) rest longer)
 
   -- the elements of each part are related as they were in the list
-  pub pairwise-cut : (R : X → X → Type 0) (xs : List X) → Pairwise R xs → All (Pairwise R) (cut separator taken xs)
+  pub pairwise-cut : (R : X → X → Type 0) (xs : List X) → Pairwise R xs → AllByRecursion (Pairwise R) (cut separator taken xs)
   pairwise-cut R [] related = (tt, tt)
   pairwise-cut R (x ∷ xs) related =
       let rest = pairwise-cut R xs related.1 in
-      let longer : All (λ s. Pairwise R (x ∷ s)) (cut separator taken xs) = all_both _ _ _ (all-cut (R x) xs related.0) rest in
+      let longer : AllByRecursion (λ s. Pairwise R (x ∷ s)) (cut separator taken xs) = all_both _ _ _ (all-cut (R x) xs related.0) rest in
       all-cut_step (Pairwise R) x (separator x) (taken x) _ tt rest (λ free. into_first-all (Pairwise R) x _ (tt, tt) rest longer)
 
   -- what is taken, and the parts, are together as long as the list
@@ -97,7 +97,7 @@ module _ {X : Type 0} (separator taken : X → Bool) where
   cut-lengths among xs = sym (length-append (filter taken xs) (together (cut separator taken xs))) ∙ length_permutation _ _ (cut-shuffled among xs)
 
   -- each part is shorter than the list, if something is taken
-  pub cut-shorter : ((x : X) → separator x ≡ true → taken x ≡ true) → (xs : List X) → 0 < length (filter taken xs) → All (λ s. length s < length xs) (cut separator taken xs)
+  pub cut-shorter : ((x : X) → separator x ≡ true → taken x ≡ true) → (xs : List X) → 0 < length (filter taken xs) → AllByRecursion (λ s. length s < length xs) (cut separator taken xs)
   cut-shorter among xs some =
       let whole = cut-lengths among xs in
       All-weaker _ _ (λ s h. omega arith) _ (part-le-together (cut separator taken xs))

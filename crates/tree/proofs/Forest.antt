@@ -1,7 +1,7 @@
 -- The nodes of several subtrees, and their numbered sections, from what is known of each subtree. Assumes nothing.
 use Rattle.std.proofs.Common.{◌≡◌, ℕ, ◌+◌, ◌<◌, ◌≤◌, List, [], ◌∷◌, ◌++◌, map, length, sym, refl, ap, ◌∙◌, add-zero, arith}
 use Rattle.std.specs.List.Sorted.{IsPermutation}
-use Rattle.std.specs.List.{flat_map, AllByRecursion as All}
+use Rattle.std.specs.List.{flat_map, AllByRecursion}
 use Rattle.std.proofs.ByRecursion.{All-append}
 use Rattle.std.proofs.lemmas.List.{length-append, length-map}
 use Rattle.std.proofs.lemmas.List.Sorted.{IsPermutation-refl}
@@ -12,12 +12,12 @@ use Rattle.tree.proofs.Shuffles.{shuffled-append}
 
 module _ {X : Type 0} (below : ℕ → List X → List (Node X)) where
   -- what is true of each node of each subtree is true of each node
-  pub all-forest : (Q : Node X → Type 0) (k : ℕ) (parts : List (List X)) → All (λ s. (j : ℕ) → All Q (below j s)) parts → All Q (forest below k parts)
+  pub all-forest : (Q : Node X → Type 0) (k : ℕ) (parts : List (List X)) → AllByRecursion (λ s. (j : ℕ) → AllByRecursion Q (below j s)) parts → AllByRecursion Q (forest below k parts)
   all-forest Q k [] each = tt
   all-forest Q k (s ∷ parts) each = All-append Q (below k s) _ (each.0 k) (all-forest Q (k + length (below k s)) parts each.1)
 
   -- if each subtree has the elements of its part, all have those of all parts
-  pub forest-shuffled : (k : ℕ) (parts : List (List X)) → All (λ s. (j : ℕ) → IsPermutation s (flat_map (λ node. node.entries) (below j s))) parts → IsPermutation (together parts) (flat_map (λ node. node.entries) (forest below k parts))
+  pub forest-shuffled : (k : ℕ) (parts : List (List X)) → AllByRecursion (λ s. (j : ℕ) → IsPermutation s (flat_map (λ node. node.entries) (below j s))) parts → IsPermutation (together parts) (flat_map (λ node. node.entries) (forest below k parts))
   forest-shuffled k [] each = IsPermutation-refl []
   forest-shuffled k (s ∷ parts) each =
       rw joined-append (shuffled-append s _ (together parts) _ (each.0 k) (forest-shuffled (k + length (below k s)) parts each.1))
@@ -31,7 +31,7 @@ module _ {X : Type 0} (below : ℕ → List X → List (Node X)) where
   pub length-numbered : (k : ℕ) (parts : List (List X)) → length (numbered below k parts) ≡ length parts
   length-numbered k parts = sym (length-map (numbered below k parts) (λ s. s.members)) ∙ ap length (numbered-members k parts)
 
-  pub all-numbered : (Q : List X → Type 0) (k : ℕ) (parts : List (List X)) → All Q parts → All (λ s. Q s.members) (numbered below k parts)
+  pub all-numbered : (Q : List X → Type 0) (k : ℕ) (parts : List (List X)) → AllByRecursion Q parts → AllByRecursion (λ s. Q s.members) (numbered below k parts)
   all-numbered Q k [] each = tt
   all-numbered Q k ([] ∷ parts) each = (each.0, all-numbered Q k parts each.1)
   all-numbered Q k ((x ∷ s) ∷ parts) each = (each.0, all-numbered Q (k + length (below k (x ∷ s))) parts each.1)
@@ -39,7 +39,7 @@ module _ {X : Type 0} (below : ℕ → List X → List (Node X)) where
 -- the numbers of sections, if an empty part has no nodes
 module _ {X : Type 0} (below : ℕ → List X → List (Node X)) (empty : (j : ℕ) → below j [] ≡ []) (Q : ℕ → Type 0) (none : Q 0) (low high : ℕ) where
   -- what is true of 0, and of each number at which the nodes of a part may begin, is true of each section's number
-  pub all-numbers : (k : ℕ) (parts : List (List X)) → low ≤ k → k + length (forest below k parts) ≤ high → All (λ s. 0 < length s → (j : ℕ) → low ≤ j → j + length (below j s) ≤ high → Q j) parts → All (λ s. Q s.number) (numbered below k parts)
+  pub all-numbers : (k : ℕ) (parts : List (List X)) → low ≤ k → k + length (forest below k parts) ≤ high → AllByRecursion (λ s. 0 < length s → (j : ℕ) → low ≤ j → j + length (below j s) ≤ high → Q j) parts → AllByRecursion (λ s. Q s.number) (numbered below k parts)
   all-numbers k [] from h each = tt
   all-numbers k ([] ∷ parts) from h each =
       let same : forest below k ([] ∷ parts) ≡ forest below k parts = rw empty (ap (λ j. forest below j parts) (add-zero k)) in
@@ -50,11 +50,11 @@ module _ {X : Type 0} (below : ℕ → List X → List (Node X)) (empty : (j : �
 
 -- equal subtrees give equal nodes and sections
 module _ {X : Type 0} (m n : ℕ → List X → List (Node X)) where
-  pub forest-same : (k : ℕ) (parts : List (List X)) → All (λ s. (j : ℕ) → m j s ≡ n j s) parts → forest m k parts ≡ forest n k parts
+  pub forest-same : (k : ℕ) (parts : List (List X)) → AllByRecursion (λ s. (j : ℕ) → m j s ≡ n j s) parts → forest m k parts ≡ forest n k parts
   forest-same k [] each = refl
   forest-same k (s ∷ parts) each = rw (each.0 k) (ap (λ l. n k s ++ l) (forest-same (k + length (n k s)) parts each.1))
 
-  pub numbered-same : (k : ℕ) (parts : List (List X)) → All (λ s. (j : ℕ) → m j s ≡ n j s) parts → numbered m k parts ≡ numbered n k parts
+  pub numbered-same : (k : ℕ) (parts : List (List X)) → AllByRecursion (λ s. (j : ℕ) → m j s ≡ n j s) parts → numbered m k parts ≡ numbered n k parts
   numbered-same k [] each = refl
   numbered-same k ([] ∷ parts) each = ap (λ l. record { number = 0; members = [] } ∷ l) (numbered-same k parts each.1)
   numbered-same k ((x ∷ s) ∷ parts) each = rw (each.0 k) (ap (λ l. record { number = k; members = x ∷ s } ∷ l) (numbered-same (k + length (n k (x ∷ s))) parts each.1))

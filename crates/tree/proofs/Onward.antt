@@ -1,6 +1,6 @@
 -- Section numbers lead onward: to a later node of the same subtree, or nowhere. Assumes nothing.
 use Rattle.std.proofs.Common.{◌≡◌, ℕ, zero, suc, ◌+◌, ◌<◌, ◌≤◌, Bool, ◌⊎◌, List, [], ◌∷◌, ◌++◌, length, get_or, refl, subst, inl, inr, add-zero, zero-add, arith}
-use Rattle.std.specs.List.{AllByRecursion as All}
+use Rattle.std.specs.List.{AllByRecursion}
 use Rattle.std.proofs.lemmas.List.{length-append}
 use Rattle.tree.specs.Tree.{Node, sections, forest, nodes}
 use Rattle.tree.specs.Laws.{Strict, Distinct}
@@ -15,7 +15,7 @@ LeadsTo low high n = (n ≡ 0) ⊎ ((low < n) × (n < high))
 -- nodes numbered on from k, each of whose sections leads past its own node, and not to `high` or past it
 abbrev pub Onward : {X : Type 0} → (high k : ℕ) → List (Node X) → Type 0
 Onward high k [] = Unit {0}
-Onward high k (node ∷ rest) = All (λ s. LeadsTo k high s.number) node.sections × Onward high (k + 1) rest
+Onward high k (node ∷ rest) = AllByRecursion (λ s. LeadsTo k high s.number) node.sections × Onward high (k + 1) rest
 
 module _ {X : Type 0} (high : ℕ) where
   onward-append : (k : ℕ) (ms ns : List (Node X)) → Onward high k ms → Onward high (k + length ms) ns → Onward high k (ms ++ ns)
@@ -24,13 +24,13 @@ module _ {X : Type 0} (high : ℕ) where
       (front.0, onward-append (k + 1) ms ns front.1 (subst (λ j. Onward high j ns) (omega arith) back))
 
   -- of the node at place i, whose number is i + k
-  pub onward-at : (k : ℕ) (ns : List (Node X)) (i : ℕ) (d : Node X) → i < length ns → Onward high k ns → All (λ s. LeadsTo (i + k) high s.number) (get_or ns i d).sections
+  pub onward-at : (k : ℕ) (ns : List (Node X)) (i : ℕ) (d : Node X) → i < length ns → Onward high k ns → AllByRecursion (λ s. LeadsTo (i + k) high s.number) (get_or ns i d).sections
   onward-at k [] i d lt on = absurd (omega arith)
   onward-at k (n ∷ ns) zero d lt on = rw zero-add on.0
-  onward-at k (n ∷ ns) (suc i) d lt on = subst (λ j. All (λ s. LeadsTo j high s.number) (get_or ns i d).sections) (omega arith) (onward-at (k + 1) ns i d (omega arith) on.1)
+  onward-at k (n ∷ ns) (suc i) d lt on = subst (λ j. AllByRecursion (λ s. LeadsTo j high s.number) (get_or ns i d).sections) (omega arith) (onward-at (k + 1) ns i d (omega arith) on.1)
 
 module _ {X : Type 0} (below : ℕ → List X → List (Node X)) (high : ℕ) where
-  forest-onward : (k : ℕ) (parts : List (List X)) → k + length (forest below k parts) ≤ high → All (λ s. (j : ℕ) → j + length (below j s) ≤ high → Onward high j (below j s)) parts → Onward high k (forest below k parts)
+  forest-onward : (k : ℕ) (parts : List (List X)) → k + length (forest below k parts) ≤ high → AllByRecursion (λ s. (j : ℕ) → j + length (below j s) ≤ high → Onward high j (below j s)) parts → Onward high k (forest below k parts)
   forest-onward k [] h each = tt
   forest-onward k (s ∷ parts) h each =
       let whole = length-append (below k s) (forest below (k + length (below k s)) parts) in
@@ -38,7 +38,7 @@ module _ {X : Type 0} (below : ℕ → List X → List (Node X)) (high : ℕ) wh
 
 module _ {X : Type 0} {P : X → Type 0} {before : X → X → Bool} (strict : Strict P before) (alpha rho : ℕ) (holds : 1 ≤ alpha) where
   -- in the nodes of a subtree, no section leads back, to its own node or past the end
-  pub nodes-onward : (high fuel parent k : ℕ) (xs : List X) → All P xs → Distinct xs → length xs ≤ fuel → k + length (nodes before alpha rho fuel parent k xs) ≤ high → Onward high k (nodes before alpha rho fuel parent k xs)
+  pub nodes-onward : (high fuel parent k : ℕ) (xs : List X) → AllByRecursion P xs → Distinct xs → length xs ≤ fuel → k + length (nodes before alpha rho fuel parent k xs) ≤ high → Onward high k (nodes before alpha rho fuel parent k xs)
   nodes-onward high zero parent k xs all apart l h = tt
   nodes-onward high (suc fuel) parent k [] all apart l h = tt
   nodes-onward high (suc fuel) parent k (x ∷ xs) all apart l h =

@@ -1,6 +1,6 @@
 -- Elements that are each related to every later one, and stay so in a filter and in the nodes. Assumes nothing.
 use Rattle.std.proofs.Common.{ℕ, zero, suc, ◌<◌, Bool, List, [], ◌∷◌, ◌++◌, length, get_or, filter, arith}
-use Rattle.std.specs.List.{AllByRecursion as All}
+use Rattle.std.specs.List.{AllByRecursion}
 use Rattle.std.proofs.ByRecursion.{All-get_or, all_kept_by}
 use Rattle.std.proofs.lemmas.Bool.{cond_both}
 use Rattle.tree.specs.Tree.{among_earliest, nodes}
@@ -16,11 +16,11 @@ module _ {X : Type 0} (R : X → X → Type 0) where
       cond_both (p x) _ _ (Pairwise R) (λ _. (all_kept_by p (R x) xs related.0, rest)) (λ _. rest)
 
   -- all that come before an element
-  pub pairwise-before : (front : List X) (x : X) (xs : List X) → Pairwise R (front ++ x ∷ xs) → All (λ y. R y x) front
+  pub pairwise-before : (front : List X) (x : X) (xs : List X) → Pairwise R (front ++ x ∷ xs) → AllByRecursion (λ y. R y x) front
   pairwise-before [] x xs related = tt
   pairwise-before (y ∷ front) x xs related = (middle front related.0, pairwise-before front x xs related.1)
     where
-      middle : (front : List X) → All (R y) (front ++ x ∷ xs) → R y x
+      middle : (front : List X) → AllByRecursion (R y) (front ++ x ∷ xs) → R y x
       middle [] all = all.0
       middle (z ∷ front) all = middle front all.1
 
@@ -32,6 +32,6 @@ module _ {X : Type 0} (R : X → X → Type 0) where
   pairwise-at (x ∷ xs) (suc i) (suc j) d related less inside = pairwise-at xs i j d related.1 (omega arith) (omega arith)
 
   -- the entries of each node are related as they were in the list
-  pub nodes-pairwise : (before : X → X → Bool) (alpha rho fuel parent k : ℕ) (xs : List X) → Pairwise R xs → All (λ node. Pairwise R node.entries) (nodes before alpha rho fuel parent k xs)
+  pub nodes-pairwise : (before : X → X → Bool) (alpha rho fuel parent k : ℕ) (xs : List X) → Pairwise R xs → AllByRecursion (λ node. Pairwise R node.entries) (nodes before alpha rho fuel parent k xs)
   nodes-pairwise before alpha rho =
       nodes-each before alpha rho (Pairwise R) _ (sections-pairwise before alpha rho R) (λ below parent k xs some. pairwise-kept-by (among_earliest before alpha xs) xs)

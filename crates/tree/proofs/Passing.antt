@@ -1,7 +1,7 @@
 -- A list cut at its separators, with a test that is true of a front of it: the part in which the front ends. Assumes nothing.
 use Rattle.std.proofs.Common.{◌≡◌, ℕ, zero, suc, ◌+◌, ◌<◌, ◌≤◌, Bool, true, false, cond, ◌&&◌, List, [], ◌∷◌, length, get_or, take, sum_by, count_by, filter, refl, ap, ◌∙◌, arith}
 use lib.Seq.{take-nil}
-use Rattle.std.specs.List.{AllByRecursion as All}
+use Rattle.std.specs.List.{AllByRecursion}
 use Rattle.std.proofs.ByRecursion.{All-get_or, all_kept_by}
 use Rattle.std.proofs.lemmas.List.Sums.{sum_by-cons, length-filter}
 use Rattle.std.proofs.lemmas.Bool.{both_ways, and_parts, and_right}
@@ -13,13 +13,13 @@ module _ {X : Type 0} (below : X → Bool) where
   -- what is below stands in front: after one that is not, none is
   abbrev pub Front : List X → Type 0
   Front [] = Unit {0}
-  Front (x ∷ xs) = (below x ≡ false → All (λ y. below y ≡ false) xs) × Front xs
+  Front (x ∷ xs) = (below x ≡ false → AllByRecursion (λ y. below y ≡ false) xs) × Front xs
 
   -- the weight of what is below
   abbrev pub weight_below : (X → ℕ) → X → ℕ
   weight_below f x = cond (below x) (f x) 0
 
-  weight-none : (f : X → ℕ) (xs : List X) → All (λ x. below x ≡ false) xs → sum_by (weight_below f) xs ≡ 0
+  weight-none : (f : X → ℕ) (xs : List X) → AllByRecursion (λ x. below x ≡ false) xs → sum_by (weight_below f) xs ≡ 0
   weight-none f [] none = refl
   weight-none f (x ∷ xs) none = sum_by-cons (weight_below f) x xs ∙ rw none.0 (omega (arith, weight-none f xs none.1))
 
@@ -38,7 +38,7 @@ module _ {X : Type 0} (separator below : X → Bool) where
       go true b h = h
       go false b h = refl
 
-  passed_none : (xs : List X) → All (λ x. below x ≡ false) xs → passed xs ≡ 0
+  passed_none : (xs : List X) → AllByRecursion (λ x. below x ≡ false) xs → passed xs ≡ 0
   passed_none [] none = refl
   passed_none (x ∷ xs) none = count_by-cons (λ y. separator y && below y) x xs false (and_right (separator x) (below x) none.0) ∙ passed_none xs none.1
 
@@ -65,8 +65,8 @@ module _ {X : Type 0} (separator taken below : X → Bool) where
   passed-lt xs = omega (arith, length_cut separator taken xs, length-filter separator xs, passed-le separator below xs)
 
   -- what is true of each element is true of each in that part
-  pub all-part_for : (Q : X → Type 0) (xs : List X) → All Q xs → All Q (part_for xs)
-  all-part_for Q xs all = All-get_or (All Q) (cut separator taken xs) (passed separator below xs) [] (passed-lt xs) (all-cut separator taken Q xs all)
+  pub all-part_for : (Q : X → Type 0) (xs : List X) → AllByRecursion Q xs → AllByRecursion Q (part_for xs)
+  all-part_for Q xs all = All-get_or (AllByRecursion Q) (cut separator taken xs) (passed separator below xs) [] (passed-lt xs) (all-cut separator taken Q xs all)
 
   -- an element that is below changes nothing of what does not regard it
   pub part_for-more : {Y : Type 0} (F : List X → Y) (x : X) (xs : List X) → below x ≡ true → ((ys : List X) → F (x ∷ ys) ≡ F ys) → F (part_for (x ∷ xs)) ≡ F (part_for xs)
@@ -82,7 +82,7 @@ module _ {X : Type 0} (separator taken below : X → Bool) where
       go false false (s ∷ parts) (suc j) = refl
 
   -- the first that is not below begins the part, unless it is taken
-  pub part_for-here : (x : X) (xs : List X) → All (λ y. below y ≡ false) (x ∷ xs) → separator x ≡ false → taken x ≡ false → part_for (x ∷ xs) ≡ x ∷ part_for xs
+  pub part_for-here : (x : X) (xs : List X) → AllByRecursion (λ y. below y ≡ false) (x ∷ xs) → separator x ≡ false → taken x ≡ false → part_for (x ∷ xs) ≡ x ∷ part_for xs
   part_for-here x xs none whole left =
       rw (passed_none separator below (x ∷ xs) none, passed_none separator below xs none.1) (go (separator x) (taken x) (cut separator taken xs) whole left)
     where
@@ -120,7 +120,7 @@ module _ {X : Type 0} (separator taken below : X → Bool) where
             rw (passed-more separator below x xs is)
             (omega (arith, weight-of below f x xs is, kept (taken x) is, weight_to-more x is (separator x) (taken x) (among x) (cut separator taken xs) (passed separator below xs)))
         go false is rest =
-            let none : All (λ y. below y ≡ false) (x ∷ xs) = (is, front.0 is) in
+            let none : AllByRecursion (λ y. below y ≡ false) (x ∷ xs) = (is, front.0 is) in
             let first = passed_none separator below (x ∷ xs) none in
             let passed-weight : sum_by (sum_by f) (take (passed separator below (x ∷ xs)) (cut separator taken (x ∷ xs))) ≡ 0 = rw first refl in
             omega (arith, weight-none below f (x ∷ xs) none, weight-none below f _ (all_kept_by taken _ (x ∷ xs) none), passed-weight, weight-none below f (part_for (x ∷ xs)) (all-part_for _ (x ∷ xs) none))

@@ -1,7 +1,7 @@
 -- Block and sections of a list of different elements: how many there are, and what is in them. Assumes nothing.
 use Rattle.std.proofs.Common.{◌≡◌, ℕ, zero, suc, ◌+◌, ◌-◌, ◌/◌, ◌<◌, ◌≤◌, min, Bool, true, false, List, ◌++◌, length, refl, div-lt_iff_lt-mul, arith}
 use Rattle.std.specs.List.Sorted.{IsPermutation}
-use Rattle.std.specs.List.{AllByRecursion as All}
+use Rattle.std.specs.List.{AllByRecursion}
 use Rattle.std.proofs.ByRecursion.{All-weaker, all_kept_by, kept_by_passes}
 use Rattle.std.proofs.lemmas.Bool.{lt-ltb, ltb-true, ltb-false}
 use Rattle.tree.specs.Tree.{fan_out, cut, drawn_before, among_earliest, block, is_active, sections}
@@ -30,24 +30,24 @@ module _ {X : Type 0} (before : X → X → Bool) (alpha rho : ℕ) where
   pub sections-shuffled : (xs : List X) → IsPermutation xs (block before alpha xs ++ together (sections before alpha rho xs))
   sections-shuffled xs = cut-shuffled _ _ (active-in-block xs) xs
 
-  pub sections-all : (P : X → Type 0) (xs : List X) → All P xs → All (All P) (sections before alpha rho xs)
+  pub sections-all : (P : X → Type 0) (xs : List X) → AllByRecursion P xs → AllByRecursion (AllByRecursion P) (sections before alpha rho xs)
   sections-all P xs = all-cut (is_active before alpha rho xs) (among_earliest before alpha xs) P xs
 
-  pub sections-pairwise : (R : X → X → Type 0) (xs : List X) → Pairwise R xs → All (Pairwise R) (sections before alpha rho xs)
+  pub sections-pairwise : (R : X → X → Type 0) (xs : List X) → Pairwise R xs → AllByRecursion (Pairwise R) (sections before alpha rho xs)
   sections-pairwise R xs = pairwise-cut (is_active before alpha rho xs) (among_earliest before alpha xs) R xs
 
 -- what is known of a section of xs, and makes it fit for the same laws
 pub record Within {X : Type 0} (P : X → Type 0) (xs s : List X) : Type 0 where
-  pub all : All P s
+  pub all : AllByRecursion P s
   pub apart : Distinct s
   pub shorter : length s < length xs
 
 module _ {X : Type 0} {P : X → Type 0} {before : X → X → Bool} (strict : Strict P before) (alpha : ℕ) where
-  pub length-block : (xs : List X) → All P xs → Distinct xs → length (block before alpha xs) ≡ min alpha (length xs)
+  pub length-block : (xs : List X) → AllByRecursion P xs → Distinct xs → length (block before alpha xs) ≡ min alpha (length xs)
   length-block = earliest-count strict alpha
 
   -- what is not in the block is drawn before nothing in it
-  later : (xs : List X) → All P xs → (y x : X) → P y × (among_earliest before alpha xs y ≡ false) → P x → among_earliest before alpha xs x ≡ true → before y x ≡ false
+  later : (xs : List X) → AllByRecursion P xs → (y x : X) → P y × (among_earliest before alpha xs y ≡ false) → P x → among_earliest before alpha xs x ≡ true → before y x ≡ false
   later xs all y x fit px early = go (before y x) refl
     where
       go : (t : Bool) → before y x ≡ t → before y x ≡ false
@@ -55,16 +55,16 @@ module _ {X : Type 0} {P : X → Type 0} {before : X → X → Bool} (strict : S
       go false e = e
 
 module _ {X : Type 0} {P : X → Type 0} {before : X → X → Bool} (strict : Strict P before) (alpha rho : ℕ) where
-  pub length-sections : 1 ≤ rho → (xs : List X) → All P xs → Distinct xs → length (sections before alpha rho xs) ≡ fan_out alpha rho (length xs)
+  pub length-sections : 1 ≤ rho → (xs : List X) → AllByRecursion P xs → Distinct xs → length (sections before alpha rho xs) ≡ fan_out alpha rho (length xs)
   length-sections h xs all apart =
       omega (arith, length_cut (is_active before alpha rho xs) (among_earliest before alpha xs) xs, earliest-count strict (fan_out alpha rho (length xs) - 1) xs all apart, fan_out-le alpha rho (length xs) h)
 
   -- a section has elements of P, no element twice, and is shorter than the list: so what follows from that is true of each
-  pub each-section : 1 ≤ alpha → (Q : List X → Type 0) (xs : List X) → 0 < length xs → All P xs → Distinct xs → ((s : List X) → Within P xs s → Q s) → All Q (sections before alpha rho xs)
+  pub each-section : 1 ≤ alpha → (Q : List X → Type 0) (xs : List X) → 0 < length xs → AllByRecursion P xs → Distinct xs → ((s : List X) → Within P xs s → Q s) → AllByRecursion Q (sections before alpha rho xs)
   each-section h Q xs some all apart step =
-      all_join {Q = λ s. All P s × Distinct s} (λ s within fit. step s (record { all = fit.0; apart = fit.1; shorter = within })) (cut active taken xs)
+      all_join {Q = λ s. AllByRecursion P s × Distinct s} (λ s within fit. step s (record { all = fit.0; apart = fit.1; shorter = within })) (cut active taken xs)
       (cut-shorter active taken (active-in-block before alpha rho xs) xs (omega (arith, length-block strict alpha xs all apart)))
-      (all_both (All P) Distinct _ (all-cut active taken P xs all) (distinct-cut active taken xs apart))
+      (all_both (AllByRecursion P) Distinct _ (all-cut active taken P xs all) (distinct-cut active taken xs apart))
     where
       active : X → Bool
       active = is_active before alpha rho xs
@@ -73,6 +73,6 @@ module _ {X : Type 0} {P : X → Type 0} {before : X → X → Bool} (strict : S
       taken = among_earliest before alpha xs
 
   -- nothing in a section is drawn before anything in the block
-  pub sections-later : (xs : List X) → All P xs → All (All (λ y. All (λ x. before y x ≡ false) (block before alpha xs))) (sections before alpha rho xs)
+  pub sections-later : (xs : List X) → AllByRecursion P xs → AllByRecursion (AllByRecursion (λ y. AllByRecursion (λ x. before y x ≡ false) (block before alpha xs))) (sections before alpha rho xs)
   sections-later xs all =
       All-weaker _ _ (λ s. All-weaker _ _ (λ y fit. all_join (λ x. later strict alpha xs all y x fit) _ (all_kept_by _ P xs all) (kept_by_passes _ xs)) s) _ (all_left _ _ P xs all)

@@ -1,26 +1,26 @@
 -- What is true of every tree, for any elements and any strict total drawing order. Assumes nothing.
 use Rattle.std.specs.Prelude.{◌≡◌, ℕ, ◌<◌, ◌≤◌, min, Bool, false, List, [], ◌∷◌, map, length, ◌≢◌}
 use Rattle.std.specs.List.Sorted.{IsPermutation}
-use Rattle.std.specs.List.{ContainsAt as Has, flat_map, AllByRecursion as All}
+use Rattle.std.specs.List.{ContainsAt as Has, flat_map, AllByRecursion}
 pub use Rattle.fields.specs.Orders.{StrictOrder as Strict}
 use Rattle.tree.specs.Tree.{Node, fan_out, block, sections, nodes, tree}
 
 -- each element is so related to every later one
 abbrev pub Pairwise : {X : Type 0} → (X → X → Type 0) → List X → Type 0
 Pairwise R [] = Unit {0}
-Pairwise R (x ∷ xs) = All (R x) xs × Pairwise R xs
+Pairwise R (x ∷ xs) = AllByRecursion (R x) xs × Pairwise R xs
 
 -- no element twice
 abbrev pub Distinct : {X : Type 0} → List X → Type 0
 Distinct [] = Unit {0}
-Distinct (x ∷ xs) = All (λ y. x ≢ y) xs × Distinct xs
+Distinct (x ∷ xs) = AllByRecursion (λ y. x ≢ y) xs × Distinct xs
 
 -- a node's laws. Its block is as full as can be; there are as many sections as the fan-out says; nothing in a section is
 -- drawn before anything in the block.
 pub record NodeLaws {X : Type 0} (before : X → X → Bool) (alpha rho : ℕ) (node : Node X) : Type 0 where
   pub full : length node.entries ≡ min alpha node.weight
   pub fan : length node.sections ≡ fan_out alpha rho node.weight
-  pub later : All (λ s. All (λ y. All (λ x. before y x ≡ false) node.entries) s.members) node.sections
+  pub later : AllByRecursion (λ s. AllByRecursion (λ y. AllByRecursion (λ x. before y x ≡ false) node.entries) s.members) node.sections
 
 pub record TreeLaws {X : Type 0} (before : X → X → Bool) (alpha rho : ℕ) (xs : List X) : Type 0 where
   -- the block of any list holds exactly alpha elements, or all if they are fewer
@@ -28,7 +28,7 @@ pub record TreeLaws {X : Type 0} (before : X → X → Bool) (alpha rho : ℕ) (
   -- the sections are as many as the fan-out
   pub divides : length (sections before alpha rho xs) ≡ fan_out alpha rho (length xs)
   -- each node keeps its laws
-  pub each : All (NodeLaws before alpha rho) (tree before alpha rho xs)
+  pub each : AllByRecursion (NodeLaws before alpha rho) (tree before alpha rho xs)
   -- the blocks hold each element exactly once
   pub once : IsPermutation xs (flat_map (λ node. node.entries) (tree before alpha rho xs))
   -- there are no more blocks than elements, and some if there are elements

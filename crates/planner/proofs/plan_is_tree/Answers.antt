@@ -1,5 +1,5 @@
 use Rattle.std.proofs.Common.{◌≡◌, ℕ, ◌<◌, map, length, get_or, sym, refl, ap, ◌∙◌, arith}
-use Rattle.std.specs.List.{range_with_len, AllByRecursion as All}
+use Rattle.std.specs.List.{range_with_len, AllByRecursion}
 use Rattle.std.proofs.lemmas.List.FromFn.{fill_by_all, get_or-range_with_len, length-range_with_len}
 use Rattle.std.proofs.ByRecursion.{All-from_get_or}
 use Rattle.std.proofs.lemmas.List.{length-map}
@@ -9,7 +9,7 @@ use Rattle.planner.specs.Drawing.{rank_before}
 use Rattle.planner.proofs.plan_is_tree.Goals as goal
 
 -- numbers counted from 0 are below their number
-all-counting : (m n : ℕ) → n ≡ m → All (λ i. i < m) (range_with_len 0 n)
+all-counting : (m n : ℕ) → n ≡ m → AllByRecursion (λ i. i < m) (range_with_len 0 n)
 all-counting m n same =
     All-from_get_or (λ i. i < m) (range_with_len 0 n) 0 (λ i h. let below : i < n = omega (arith, length-range_with_len 0 n) in rw (get_or-range_with_len 0 n i 0 below) (omega arith))
 
