@@ -8,20 +8,20 @@ pub worked : WorkedExamples
 unfolding table substitute ones
 worked =
     record {
-      first-priority = refl;
-      eight-blocks = refl;
-      six-blocks = refl;
-      six-mask = refl;
-      finds-place-3 = refl;
-      finds-place-6 = refl;
-      misses-place-9 = refl;
-      more-lines = refl;
+      first_priority = refl;
+      eight_blocks = refl;
+      six_blocks = refl;
+      six_mask = refl;
+      finds_place_3 = refl;
+      finds_place_6 = refl;
+      misses_place_9 = refl;
+      more_lines = refl;
       same_lines = refl;
-      page-of-6 = refl;
-      page-after-cut = refl;
-      late-edit = refl;
-      paragraphs-10 = refl;
-      paragraphs-11 = refl;
-      marks-6 = refl;
-      marks-7 = refl;
+      page_of_6 = refl;
+      page_after_cut = refl;
+      late_edit = refl;
+      paragraphs_10 = refl;
+      paragraphs_11 = refl;
+      marks_6 = refl;
+      marks_7 = refl;
     }

@@ -57,23 +57,23 @@ places_in u blocks = map (λ bytes. map (field 0 4) (slots paragraphs bytes)) (t
 
 pub record WorkedExamples : Type 0 where
   -- place 1 has priority 9DF5h
-  pub first-priority : priority (key_at 1) ≡ 40437
-  pub eight-blocks : places_in 8 eight ≡ (4 ∷ 6 ∷ []) ∷ (1 ∷ 2 ∷ []) ∷ (3 ∷ []) ∷ (5 ∷ []) ∷ (7 ∷ 8 ∷ []) ∷ [] ∷ [] ∷ [] ∷ []
-  pub six-blocks : places_in 6 six ≡ (4 ∷ 6 ∷ []) ∷ (2 ∷ 5 ∷ []) ∷ (1 ∷ 3 ∷ []) ∷ [] ∷ [] ∷ [] ∷ []
-  pub six-mask : map mask (take 1 (drop 1 six)) ≡ 2 ∷ []
+  pub first_priority : priority (key_at 1) ≡ 40437
+  pub eight_blocks : places_in 8 eight ≡ (4 ∷ 6 ∷ []) ∷ (1 ∷ 2 ∷ []) ∷ (3 ∷ []) ∷ (5 ∷ []) ∷ (7 ∷ 8 ∷ []) ∷ [] ∷ [] ∷ [] ∷ []
+  pub six_blocks : places_in 6 six ≡ (4 ∷ 6 ∷ []) ∷ (2 ∷ 5 ∷ []) ∷ (1 ∷ 3 ∷ []) ∷ [] ∷ [] ∷ [] ∷ []
+  pub six_mask : map mask (take 1 (drop 1 six)) ≡ 2 ∷ []
   -- look-ups among the eight
-  pub finds-place-3 : look_up_answer paragraphs (key_at 3) 16 eight ≡ Ok (record { message = Some (set_at 3); reads = 4 })
-  pub finds-place-6 : look_up_answer paragraphs (key_at 6) 16 eight ≡ Ok (record { message = Some (set_at 6); reads = 2 })
-  pub misses-place-9 : look_up_answer paragraphs (key_at 9) 16 eight ≡ Ok (record { message = None; reads = 3 })
+  pub finds_place_3 : look_up_answer paragraphs (key_at 3) 16 eight ≡ Ok (record { message = Some (set_at 3); reads = 4 })
+  pub finds_place_6 : look_up_answer paragraphs (key_at 6) 16 eight ≡ Ok (record { message = Some (set_at 6); reads = 2 })
+  pub misses_place_9 : look_up_answer paragraphs (key_at 9) 16 eight ≡ Ok (record { message = None; reads = 3 })
   -- place 3 again with stamp 2: with 12 lines four blocks differ, with 10 lines one
-  pub more-lines : deliver_answer paragraphs work (paragraph 3 1 12 2) eight ≡ Ok (2, 4)
+  pub more_lines : deliver_answer paragraphs work (paragraph 3 1 12 2) eight ≡ Ok (2, 4)
   pub same_lines : deliver_answer paragraphs work (paragraph 3 1 10 2) eight ≡ Ok (2, 1)
   -- with 25 lines to a page, and after place 2 was cut; an edit of place 2 with a later stamp is overtaken
-  pub page-of-6 : page_answer paragraphs (key_at 6) 25 eight ≡ Ok (Some 3)
-  pub page-after-cut : page_answer paragraphs (key_at 6) 25 eight_with_cut ≡ Ok (Some 2)
-  pub late-edit : deliver_answer paragraphs work (paragraph 2 1 10 3) eight_with_cut ≡ Ok (3, 0)
+  pub page_of_6 : page_answer paragraphs (key_at 6) 25 eight ≡ Ok (Some 3)
+  pub page_after_cut : page_answer paragraphs (key_at 6) 25 eight_with_cut ≡ Ok (Some 2)
+  pub late_edit : deliver_answer paragraphs work (paragraph 2 1 10 3) eight_with_cut ≡ Ok (3, 0)
   -- the most entries that a block can hold
-  pub paragraphs-10 : lay_out_answer paragraphs 9 (settings 10 2) ≡ Ok tt
-  pub paragraphs-11 : lay_out_answer paragraphs 9 (settings 11 2) ≡ Err (27, 1)
-  pub marks-6 : lay_out_answer index_marks 9 (settings 6 2) ≡ Ok tt
-  pub marks-7 : lay_out_answer index_marks 9 (settings 7 2) ≡ Err (27, 1)
+  pub paragraphs_10 : lay_out_answer paragraphs 9 (settings 10 2) ≡ Ok tt
+  pub paragraphs_11 : lay_out_answer paragraphs 9 (settings 11 2) ≡ Err (27, 1)
+  pub marks_6 : lay_out_answer index_marks 9 (settings 6 2) ≡ Ok tt
+  pub marks_7 : lay_out_answer index_marks 9 (settings 7 2) ≡ Err (27, 1)

@@ -23,27 +23,27 @@ entries : ℕ → Bool
 entries zero = true
 entries (suc n) = entry n && entries n
 
-inverse-true : (x y : ℕ) → inverse x y ≡ true → Inverse x y
+inverse_true : (x y : ℕ) → inverse x y ≡ true → Inverse x y
 unfolding inverse
-inverse-true x y t =
+inverse_true x y t =
     ⊎_elim
     (λ z. let both = and_parts (eqb x 0) (eqb y 0) z in inl (eqb-true x 0 both.0, eqb-true y 0 both.1))
     (λ z. inr (eqb-true (times x y) 1 z))
     (or_cases (eqb x 0 && eqb y 0) (eqb (times x y) 1) t)
 
-follows-true : (x y r : ℕ) → follows x y r ≡ true → Standard x r
+follows_true : (x y r : ℕ) → follows x y r ≡ true → Standard x r
 unfolding follows
-follows-true x y r t =
+follows_true x y r t =
     let first = and_parts (ltb y 256) (inverse x y && eqb r (affine y)) t in
     let second = and_parts (inverse x y) (eqb r (affine y)) first.1 in
-    (y, ltb-true y 256 first.0, inverse-true x y second.0, eqb-true r (affine y) second.1)
+    (y, ltb-true y 256 first.0, inverse_true x y second.0, eqb-true r (affine y) second.1)
 
 tested : entries 256 ≡ true
 unfolding entries entry follows inverse undone_bits substitute table
 tested = refl
 
-pub table-standard : (x : ℕ) → x < 256 → Standard x (substitute x)
+pub table_standard : (x : ℕ) → x < 256 → Standard x (substitute x)
 unfolding entry entries
-table-standard x lt =
-    follows-true x (undone_bits 8 (substitute x)) (substitute x)
+table_standard x lt =
+    follows_true x (undone_bits 8 (substitute x)) (substitute x)
     ((Decides-below_and entry (λ k. entry k ≡ true) entries (λ k. (λ t. t, λ t. t)) refl (λ n. refl) 256).0 tested x lt)

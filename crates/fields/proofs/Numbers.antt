@@ -45,17 +45,17 @@ number-part at k bs = rw add-one (from at k bs)
     from zero k (b ∷ bs) = refl
     from (suc at) k (b ∷ bs) = from at k bs
 
-byte-lt : (bs : List ℕ) (i : ℕ) → Bytes bs → get_or bs i 0 < 256
-byte-lt [] i h = omega arith
-byte-lt (b ∷ bs) zero h = h.0
-byte-lt (b ∷ bs) (suc i) h = byte-lt bs i h.1
+byte_lt : (bs : List ℕ) (i : ℕ) → Bytes bs → get_or bs i 0 < 256
+byte_lt [] i h = omega arith
+byte_lt (b ∷ bs) zero h = h.0
+byte_lt (b ∷ bs) (suc i) h = byte_lt bs i h.1
 
 -- a field of k bytes is below 256 ^ k
 pub number-part-lt : (at k : ℕ) (bs : List ℕ) → Bytes bs → number (part at k bs) < 256 ^ k
 number-part-lt at zero bs h = omega arith
 number-part-lt at (suc k) bs h =
     let rest = number-part-lt (at + 1) k bs h in
-    rw number-part (omega (arith, byte-lt bs at h, pow-succ' 256 k))
+    rw number-part (omega (arith, byte_lt bs at h, pow-succ' 256 k))
 
 pub length_part : {X : Type 0} (at k : ℕ) (xs : List X) → at + k ≤ length xs → length (part at k xs) ≡ k
 length_part at k xs within = length-take-le k (drop at xs) (simp length-drop (omega arith))

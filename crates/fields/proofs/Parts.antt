@@ -7,24 +7,24 @@ use Rattle.std.proofs.lemmas.Bool.{cases_lt}
 use Rattle.fields.specs.Numbers.{part}
 
 -- a part past n elements is a part of what lies after them
-pub part-past : {X : Type 0} (n at k : ℕ) (xs : List X) → part (n + at) k xs ≡ part at k (drop n xs)
-part-past n at k xs = ap (take k) (sym (drop-drop at n xs))
+pub part_past : {X : Type 0} (n at k : ℕ) (xs : List X) → part (n + at) k xs ≡ part at k (drop n xs)
+part_past n at k xs = ap (take k) (sym (drop-drop at n xs))
 
 module _ {X Y : Type 0} (f : X → List Y) (w : ℕ) where
   abbrev OfWidth : List X → Type 0
   OfWidth xs = AllByRecursion (λ x. length (f x) ≡ w) xs
 
-  pub length-joined : (xs : List X) → OfWidth xs → length (flat_map f xs) ≡ length xs * w
-  length-joined [] h = sym (zero-mul w)
-  length-joined (x ∷ xs) h = omega (arith, length-append (f x) (flat_map f xs), h.0, length-joined xs h.1, suc-mul (length xs) w)
+  pub length_joined : (xs : List X) → OfWidth xs → length (flat_map f xs) ≡ length xs * w
+  length_joined [] h = sym (zero-mul w)
+  length_joined (x ∷ xs) h = omega (arith, length-append (f x) (flat_map f xs), h.0, length_joined xs h.1, suc-mul (length xs) w)
 
   -- piece i of pieces laid one after the other
-  pub part-joined : (xs : List X) (rest : List Y) → OfWidth xs → (i : ℕ) (d : X) → i < length xs → part (i * w) w (flat_map f xs ++ rest) ≡ f (get_or xs i d)
-  part-joined [] rest h i d lt = absurd (omega arith)
-  part-joined (x ∷ xs) rest h zero d lt = rw (zero-mul, append_assoc) (take_at (f x) (flat_map f xs ++ rest) w h.0)
-  part-joined (x ∷ xs) rest h (suc i) d lt =
+  pub part_joined : (xs : List X) (rest : List Y) → OfWidth xs → (i : ℕ) (d : X) → i < length xs → part (i * w) w (flat_map f xs ++ rest) ≡ f (get_or xs i d)
+  part_joined [] rest h i d lt = absurd (omega arith)
+  part_joined (x ∷ xs) rest h zero d lt = rw (zero-mul, append_assoc) (take_at (f x) (flat_map f xs ++ rest) w h.0)
+  part_joined (x ∷ xs) rest h (suc i) d lt =
       let at : suc i * w ≡ w + i * w = suc-mul i w ∙ add_comm (i * w) w in
-      rw (at, append_assoc) (part-past w (i * w) w (f x ++ (flat_map f xs ++ rest)) ∙ ap (part (i * w) w) (drop_at (f x) (flat_map f xs ++ rest) w h.0) ∙ part-joined xs rest h.1 i d (omega arith))
+      rw (at, append_assoc) (part_past w (i * w) w (f x ++ (flat_map f xs ++ rest)) ∙ ap (part (i * w) w) (drop_at (f x) (flat_map f xs ++ rest) w h.0) ∙ part_joined xs rest h.1 i d (omega arith))
 
 -- to cut at the end is to cut anywhere past it
 drop_min : {X : Type 0} (at : ℕ) (xs : List X) → drop (min at (length xs)) xs ≡ drop at xs
@@ -36,14 +36,14 @@ take_min k xs =
     ⊎_elim (λ l. ap (λ n. take n xs) (omega arith)) (λ l. take_all (min k (length xs)) xs (omega arith) ∙ sym (take_all k xs (omega arith))) (cases_lt k (length xs))
 
 -- a part, as slices cut at the end give it
-pub part-is : {X : Type 0} (xs : List X) (at k from count : ℕ) → from ≡ min at (length xs) → count ≡ min k (length (take (length xs - from) (drop from xs))) → take (count - 0) (take (length xs - from) (drop from xs)) ≡ part at k xs
-part-is xs at k from count f c =
+pub part_is : {X : Type 0} (xs : List X) (at k from count : ℕ) → from ≡ min at (length xs) → count ≡ min k (length (take (length xs - from) (drop from xs))) → take (count - 0) (take (length xs - from) (drop from xs)) ≡ part at k xs
+part_is xs at k from count f c =
     let rest : take (length xs - from) (drop from xs) ≡ drop at xs = take_rest xs from ∙ ap (λ n. drop n xs) f ∙ drop_min at xs in
     rw (sub-zero, c, rest) (take_min k (drop at xs))
 
 -- offsets that are the same up to the end, or both past it
-pub part-far : {X : Type 0} (xs : List X) (at from k : ℕ) → min at (length xs) ≡ min from (length xs) → part at k xs ≡ part from k xs
-part-far xs at from k same = ap (take k) (sym (drop_min at xs) ∙ ap (λ n. drop n xs) same ∙ drop_min from xs)
+pub part_far : {X : Type 0} (xs : List X) (at from k : ℕ) → min at (length xs) ≡ min from (length xs) → part at k xs ≡ part from k xs
+part_far xs at from k same = ap (take k) (sym (drop_min at xs) ∙ ap (λ n. drop n xs) same ∙ drop_min from xs)
 
 -- the front of a list of k elements, cut to what there is
 pub take-cut : {X : Type 0} (xs : List X) (n m k : ℕ) → length xs ≡ k → m ≡ min n k → take m xs ≡ take n xs

@@ -11,7 +11,7 @@ use Rattle.std.proofs.lemmas.List.Sums.{sum_by-cons, count_by-le-length}
 use Rattle.std.proofs.lemmas.Bool.{and_parts, leb-true, le-ltb}
 use Rattle.fields.specs.Numbers.{Bytes, le, part}
 use Rattle.fields.proofs.Numbers.{bytes_le, number-le}
-use Rattle.fields.proofs.Parts.{part-past, length-joined, part-joined}
+use Rattle.fields.proofs.Parts.{part_past, length_joined, part_joined}
 use Rattle.kinds.specs.Kind.{Kind, Lawful}
 use Rattle.tree.specs.Tree.{Section, Node}
 use Rattle.image.specs.Image.{filled, block_of, mask_of, section_record, tree_block}
@@ -23,13 +23,13 @@ use Rattle.image.specs.Settings.{alpha_fits}
 pub length-filled : {X : Type 0} (x : X) (n : ℕ) (xs : List X) → length xs ≤ n → length (filled x n xs) ≡ n
 length-filled x n xs h = omega (arith, length-append xs (replicate (n - length xs) x), length-replicate (n - length xs) x)
 
-pub bytes-zeros : (n : ℕ) → Bytes (replicate n 0)
-bytes-zeros zero = tt
-bytes-zeros (suc n) = (omega arith, bytes-zeros n)
+pub bytes_zeros : (n : ℕ) → Bytes (replicate n 0)
+bytes_zeros zero = tt
+bytes_zeros (suc n) = (omega arith, bytes_zeros n)
 
 -- what is laid down fits, so the block has 256 bytes
-pub block-of : (bytes : List ℕ) → length bytes ≤ 256 → Bytes bytes → Block (block_of bytes)
-block-of bytes short small = record { long = length-filled 0 256 bytes short; small = All-append _ bytes _ small (bytes-zeros (256 - length bytes)) }
+pub block_of_lem : (bytes : List ℕ) → length bytes ≤ 256 → Bytes bytes → Block (block_of bytes)
+block_of_lem bytes short small = record { long = length-filled 0 256 bytes short; small = All-append _ bytes _ small (bytes_zeros (256 - length bytes)) }
 
 -- the mask: fewer bits than flags, the flags as bits, and as many ones
 mask_lt : (flags : List Bool) → mask_of flags < 2 ^ length flags
@@ -49,44 +49,44 @@ ones-mask (b ∷ flags) =
     let low = mask_low b flags in
     ones_step (mask_of (b ∷ flags)) ∙ ap₂ ◌+◌ low.0 (ap ones low.1 ∙ ones-mask flags) ∙ sym (sum_by-cons (λ b. cond b 1 0) b flags)
 
-one-is : (b : Bool) → eqb (cond b 1 0) 1 ≡ b
-one-is true = refl
-one-is false = refl
+one_is : (b : Bool) → eqb (cond b 1 0) 1 ≡ b
+one_is true = refl
+one_is false = refl
 
-pub bit-of-mask : (flags : List Bool) (i : ℕ) → i < length flags → eqb (mask_of flags / 2 ^ i % 2) 1 ≡ get_or flags i false
-bit-of-mask [] i lt = absurd (omega arith)
-bit-of-mask (b ∷ flags) zero lt = ap (λ n. eqb (n % 2) 1) (div-one (mask_of (b ∷ flags))) ∙ ap (λ n. eqb n 1) (mask_low b flags).0 ∙ one-is b
-bit-of-mask (b ∷ flags) (suc i) lt =
+pub bit_of_mask : (flags : List Bool) (i : ℕ) → i < length flags → eqb (mask_of flags / 2 ^ i % 2) 1 ≡ get_or flags i false
+bit_of_mask [] i lt = absurd (omega arith)
+bit_of_mask (b ∷ flags) zero lt = ap (λ n. eqb (n % 2) 1) (div-one (mask_of (b ∷ flags))) ∙ ap (λ n. eqb n 1) (mask_low b flags).0 ∙ one_is b
+bit_of_mask (b ∷ flags) (suc i) lt =
     let shifted : mask_of (b ∷ flags) / 2 ^ suc i ≡ mask_of flags / 2 ^ i = ap (λ p. mask_of (b ∷ flags) / p) (pow-succ' 2 i) ∙ sym (div-div-eq-div-mul (mask_of (b ∷ flags)) 2 (2 ^ i)) ∙ ap (λ n. n / 2 ^ i) (mask_low b flags).1 in
-    ap (λ n. eqb (n % 2) 1) shifted ∙ bit-of-mask flags i (omega arith)
+    ap (λ n. eqb (n % 2) 1) shifted ∙ bit_of_mask flags i (omega arith)
 
 -- what a section record says of a section that fits
-record-says : (kind : Kind) (s : Section (List ℕ)) → SectionFits kind s → section_fields (section_record kind s) ≡ section_says kind s
-record-says kind s fits =
+record_says : (kind : Kind) (s : Section (List ℕ)) → SectionFits kind s → section_fields (section_record kind s) ≡ section_says kind s
+record_says kind s fits =
     let number' = number-le 2 s.number fits.number in
     let weight' = number-le 2 (length s.members) fits.weight in
     let measure' = number-le 4 (total_measure kind s.members) fits.measure in
     λ i. record { number = number' i; weight = weight' i; measure = measure' i }
 
-bytes-joined : {X : Type 0} (f : X → List ℕ) (xs : List X) → AllByRecursion (λ x. Bytes (f x)) xs → Bytes (flat_map f xs)
-bytes-joined f [] h = tt
-bytes-joined f (x ∷ xs) h = All-append _ (f x) (flat_map f xs) h.0 (bytes-joined f xs h.1)
+bytes_joined : {X : Type 0} (f : X → List ℕ) (xs : List X) → AllByRecursion (λ x. Bytes (f x)) xs → Bytes (flat_map f xs)
+bytes_joined f [] h = tt
+bytes_joined f (x ∷ xs) h = All-append _ (f x) (flat_map f xs) h.0 (bytes_joined f xs h.1)
 
 every_one : {X : Type 0} {P : X → Type 0} (h : (x : X) → P x) (xs : List X) → AllByRecursion P xs
 every_one h [] = tt
 every_one h (x ∷ xs) = (h x, every_one h xs)
 
-bytes-append : (xs ys : List ℕ) → Bytes xs → Bytes ys → Bytes (xs ++ ys)
-bytes-append xs ys = All-append (λ b. b < 256) xs ys
+bytes_append : (xs ys : List ℕ) → Bytes xs → Bytes ys → Bytes (xs ++ ys)
+bytes_append xs ys = All-append (λ b. b < 256) xs ys
 
 -- a number and what follows it
-pub bytes-then : (k n : ℕ) (rest : List ℕ) → Bytes rest → Bytes (le k n ++ rest)
-bytes-then k n rest = bytes-append (le k n) rest (bytes_le k n)
+pub bytes_then : (k n : ℕ) (rest : List ℕ) → Bytes rest → Bytes (le k n ++ rest)
+bytes_then k n rest = bytes_append (le k n) rest (bytes_le k n)
 
-record-bytes : (kind : Kind) (s : Section (List ℕ)) → Bytes (section_record kind s)
-record-bytes kind s =
+record_bytes_lem : (kind : Kind) (s : Section (List ℕ)) → Bytes (section_record kind s)
+record_bytes_lem kind s =
     let measure = le 4 (total_measure kind s.members) in
-    bytes-then 2 s.number (le 2 (length s.members) ++ measure) (bytes-then 2 (length s.members) measure (bytes_le 4 (total_measure kind s.members)))
+    bytes_then 2 s.number (le 2 (length s.members) ++ measure) (bytes_then 2 (length s.members) measure (bytes_le 4 (total_measure kind s.members)))
 
 -- alpha is small enough for its slots and section records
 pub record Room (width alpha : ℕ) : Type 0 where
@@ -119,96 +119,96 @@ module _ (kind : Kind) (alpha : ℕ) (node : Node (List ℕ)) (lawful : Lawful k
   abbrev zeros : List ℕ
   zeros = replicate (256 - length (0 ∷ 0 ∷ 0 ∷ 0 ∷ 0 ∷ 0 ∷ 0 ∷ 0 ∷ laid)) 0
 
-  record-long : AllByRecursion (λ s. length (section_record kind s) ≡ 8) node.sections
-  record-long = every_one (λ s. refl) node.sections
+  record_long : AllByRecursion (λ s. length (section_record kind s) ≡ 8) node.sections
+  record_long = every_one (λ s. refl) node.sections
 
-  slots-long : length slot_bytes ≡ alpha * kind.width
-  slots-long =
+  slots_long : length slot_bytes ≡ alpha * kind.width
+  slots_long =
       length-filled 0 (alpha * kind.width) message_bytes
-      (omega (arith, length-joined (λ m. m) kind.width node.entries fits.wide, mul-le-mul_right kind.width fits.few))
+      (omega (arith, length_joined (λ m. m) kind.width node.entries fits.wide, mul-le-mul_right kind.width fits.few))
 
-  section-count : length node.sections ≤ alpha + 1
-  section-count = omega (arith, fits.few, fits.flags, fits.fan, count_by-le-length (λ b. b) node.active)
+  section_count_lem : length node.sections ≤ alpha + 1
+  section_count_lem = omega (arith, fits.few, fits.flags, fits.fan, count_by-le-length (λ b. b) node.active)
 
-  laid-short : 8 + length laid ≤ 256
-  laid-short =
-      omega (arith, r.all, length-append slot_bytes records, slots-long, length-joined (section_record kind) 8 node.sections record-long, section-count)
+  laid_short : 8 + length laid ≤ 256
+  laid_short =
+      omega (arith, r.all, length-append slot_bytes records, slots_long, length_joined (section_record kind) 8 node.sections record_long, section_count_lem)
 
   -- a part of the block past its first eight bytes
   part-after : (at k : ℕ) → part (8 + at) k (tree_block kind alpha node) ≡ part at k (laid ++ zeros)
-  part-after at k = part-past 8 at k (tree_block kind alpha node)
+  part-after at k = part_past 8 at k (tree_block kind alpha node)
 
   regrouped : laid ++ zeros ≡ message_bytes ++ (unused ++ (records ++ zeros))
   regrouped = simp append_assoc
 
-  slot-back : (i : ℕ) → i < length node.entries → slot kind (tree_block kind alpha node) i ≡ get_or node.entries i []
-  slot-back i lt =
+  slot_back : (i : ℕ) → i < length node.entries → slot kind (tree_block kind alpha node) i ≡ get_or node.entries i []
+  slot_back i lt =
       part-after (i * kind.width) kind.width
       ∙ ap (part (i * kind.width) kind.width) regrouped
-      ∙ part-joined (λ m. m) kind.width node.entries (unused ++ (records ++ zeros)) fits.wide i [] lt
+      ∙ part_joined (λ m. m) kind.width node.entries (unused ++ (records ++ zeros)) fits.wide i [] lt
 
   -- the block past its slots
-  after-slots : drop (8 + alpha * kind.width) (tree_block kind alpha node) ≡ records ++ zeros
-  after-slots =
+  after_slots : drop (8 + alpha * kind.width) (tree_block kind alpha node) ≡ records ++ zeros
+  after_slots =
       sym (drop-drop (alpha * kind.width) 8 (tree_block kind alpha node))
       ∙ ap (drop (alpha * kind.width)) (append_assoc slot_bytes records zeros)
-      ∙ drop_at slot_bytes (records ++ zeros) (alpha * kind.width) slots-long
+      ∙ drop_at slot_bytes (records ++ zeros) (alpha * kind.width) slots_long
 
-  section-back : (i : ℕ) (d : Section (List ℕ)) → i < length node.sections → section_at kind alpha (tree_block kind alpha node) i ≡ section_says kind (get_or node.sections i d)
-  section-back i d lt =
-      let bytes = part-past (8 + alpha * kind.width) (i * 8) 8 (tree_block kind alpha node) ∙ ap (part (i * 8) 8) after-slots ∙ part-joined (section_record kind) 8 node.sections zeros record-long i d lt in
-      ap section_fields bytes ∙ record-says kind _ (All-get_or _ node.sections i d lt fits.each)
+  section_back : (i : ℕ) (d : Section (List ℕ)) → i < length node.sections → section_at kind alpha (tree_block kind alpha node) i ≡ section_says kind (get_or node.sections i d)
+  section_back i d lt =
+      let bytes = part_past (8 + alpha * kind.width) (i * 8) 8 (tree_block kind alpha node) ∙ ap (part (i * 8) 8) after_slots ∙ part_joined (section_record kind) 8 node.sections zeros record_long i d lt in
+      ap section_fields bytes ∙ record_says kind _ (All-get_or _ node.sections i d lt fits.each)
 
-  mask-back : mask (tree_block kind alpha node) ≡ mask_of node.active
-  mask-back =
+  mask_back : mask (tree_block kind alpha node) ≡ mask_of node.active
+  mask_back =
       let small : length node.active ≤ 16 = omega (arith, fits.flags, fits.few, r.low) in
       number-le 2 (mask_of node.active) (omega (arith, mask_lt node.active, pow_mono small))
 
-  section-count-back : section_count (tree_block kind alpha node) ≡ length node.sections
-  section-count-back = ap (λ m. ones m + 1) mask-back ∙ ap (λ n. n + 1) (ones-mask node.active) ∙ sym fits.fan
+  section_count_back : section_count (tree_block kind alpha node) ≡ length node.sections
+  section_count_back = ap (λ m. ones m + 1) mask_back ∙ ap (λ n. n + 1) (ones-mask node.active) ∙ sym fits.fan
 
-  sections-back : sections_of kind alpha (tree_block kind alpha node) ≡ map (section_says kind) node.sections
-  sections-back =
+  sections_back : sections_of kind alpha (tree_block kind alpha node) ≡ map (section_says kind) node.sections
+  sections_back =
       let none : Section (List ℕ) = record { number = 0; members = [] } in
       sym (fill_by_all (section_at kind alpha (tree_block kind alpha node)) (map (section_says kind) node.sections) _ (section_says kind none)
-      (length-map node.sections (section_says kind) ∙ sym section-count-back)
-      (λ i lt. let within : i < length node.sections = omega (arith, section-count-back) in get_or-map (section_says kind) node.sections i none (section_says kind none) within ∙ sym (section-back i none within)))
+      (length-map node.sections (section_says kind) ∙ sym section_count_back)
+      (λ i lt. let within : i < length node.sections = omega (arith, section_count_back) in get_or-map (section_says kind) node.sections i none (section_says kind none) within ∙ sym (section_back i none within)))
 
-  node-reads-back : ReadsBack kind alpha node (tree_block kind alpha node)
-  node-reads-back = record {
+  node_reads_back : ReadsBack kind alpha node (tree_block kind alpha node)
+  node_reads_back = record {
     count = refl;
     same_kind = refl;
-    separators = mask-back;
-    active = λ i lt. ap (λ m. eqb (m / 2 ^ i % 2) 1) mask-back ∙ bit-of-mask node.active i lt;
+    separators = mask_back;
+    active = λ i lt. ap (λ m. eqb (m / 2 ^ i % 2) 1) mask_back ∙ bit_of_mask node.active i lt;
     weight = number-le 2 node.weight fits.weight;
     parent = number-le 2 node.parent fits.parent;
-    messages = sym (fill_by_all (slot kind (tree_block kind alpha node)) node.entries _ [] refl (λ i lt. sym (slot-back i lt)));
-    sections = sections-back;
+    messages = sym (fill_by_all (slot kind (tree_block kind alpha node)) node.entries _ [] refl (λ i lt. sym (slot_back i lt)));
+    sections = sections_back;
   }
 
-  laid-bytes : Bytes laid
-  laid-bytes =
-      bytes-append slot_bytes records
-      (bytes-append message_bytes unused (bytes-joined (λ m. m) node.entries fits.small) (bytes-zeros (alpha * kind.width - length message_bytes)))
-      (bytes-joined (section_record kind) node.sections (every_one (record-bytes kind) node.sections))
+  laid_bytes : Bytes laid
+  laid_bytes =
+      bytes_append slot_bytes records
+      (bytes_append message_bytes unused (bytes_joined (λ m. m) node.entries fits.small) (bytes_zeros (alpha * kind.width - length message_bytes)))
+      (bytes_joined (section_record kind) node.sections (every_one (record_bytes_lem kind) node.sections))
 
   node_block : Block (tree_block kind alpha node)
   node_block =
       let parent = le 2 node.parent ++ laid in
       let weight = le 2 node.weight ++ parent in
-      block-of (length node.entries ∷ kind.number ∷ (le 2 (mask_of node.active) ++ weight)) (omega (arith, laid-short))
-      (omega (arith, fits.few, r.low), (omega (arith, lawful.number-high), bytes-then 2 (mask_of node.active) weight (bytes-then 2 node.weight parent (bytes-then 2 node.parent laid laid-bytes))))
+      block_of_lem (length node.entries ∷ kind.number ∷ (le 2 (mask_of node.active) ++ weight)) (omega (arith, laid_short))
+      (omega (arith, fits.few, r.low), (omega (arith, lawful.number_high), bytes_then 2 (mask_of node.active) weight (bytes_then 2 node.weight parent (bytes_then 2 node.parent laid laid_bytes))))
 
-pub tree-block-reads-back : TreeBlockReadsBack
-tree-block-reads-back kind alpha node lawful fit fits =
+pub tree_block_reads_back : TreeBlockReadsBack
+tree_block_reads_back kind alpha node lawful fit fits =
     let r = room kind.width alpha fit in
-    record { block = node_block kind alpha node lawful fits r; reads-back = node-reads-back kind alpha node lawful fits r }
+    record { block = node_block kind alpha node lawful fits r; reads_back = node_reads_back kind alpha node lawful fits r }
 
 -- a bit of the mask by a shift, and past its sixteen bits
-pub shifted-bit : (m i : ℕ) → eqb (bit_and (m / 2 ^ i) 1) 1 ≡ eqb (m / 2 ^ i % 2) 1
-shifted-bit m i = ap (λ n. eqb n 1) (and_mask (m / 2 ^ i) 1)
+pub shifted_bit : (m i : ℕ) → eqb (bit_and (m / 2 ^ i) 1) 1 ≡ eqb (m / 2 ^ i % 2) 1
+shifted_bit m i = ap (λ n. eqb n 1) (and_mask (m / 2 ^ i) 1)
 
-pub no-bit : (m i : ℕ) → m < 65536 → 16 ≤ i → ltb i 16 ≡ eqb (m / 2 ^ i % 2) 1
-no-bit m i small past =
+pub no_bit : (m i : ℕ) → m < 65536 → 16 ≤ i → ltb i 16 ≡ eqb (m / 2 ^ i % 2) 1
+no_bit m i small past =
     let none : m / 2 ^ i ≡ 0 = div-eq_of_lt (omega (arith, pow_mono past)) in
     le-ltb i 16 past ∙ sym (ap (λ n. eqb (n % 2) 1) none)

@@ -24,20 +24,20 @@ module _ {X : Type 0} {test : X → Bool} {f : ℕ → X} {n i : ℕ} {all : Boo
   here : i < n → (test (f i) && every test (drop (i + 1) (map f (range_with_len 0 n)))) ≡ all
   here lt = sym (from_more f n (every test) i lt) ∙ p.is
 
-  pub passed-more : i < n → test (f i) ≡ true → Passed test f n (i + 1) all
-  passed-more lt passes = record { is = ap (λ t. t && every test (drop (i + 1) (map f (range_with_len 0 n)))) (sym passes) ∙ here lt }
+  pub passed_more : i < n → test (f i) ≡ true → Passed test f n (i + 1) all
+  passed_more lt passes = record { is = ap (λ t. t && every test (drop (i + 1) (map f (range_with_len 0 n)))) (sym passes) ∙ here lt }
 
   pub passed-not : i < n → test (f i) ≡ false → false ≡ all
   passed-not lt fails = ap (λ t. t && every test (drop (i + 1) (map f (range_with_len 0 n)))) (sym fails) ∙ here lt
 
-  pub passed-all : n ≤ i → true ≡ all
-  passed-all past = sym (from_all f n (every test) i past) ∙ p.is
+  pub passed_all : n ≤ i → true ≡ all
+  passed_all past = sym (from_all f n (every test) i past) ∙ p.is
 
 -- what is true of each is true of the one at i
-pub every-at : {X : Type 0} (test : X → Bool) (xs : List X) (i : ℕ) (d : X) → i < length xs → every test xs ≡ true → test (get_or xs i d) ≡ true
-every-at test [] i d inside all = absurd (omega arith)
-every-at test (x ∷ xs) zero d inside all = (and_parts (test x) (every test xs) all).0
-every-at test (x ∷ xs) (suc i) d inside all = every-at test xs i d (omega arith) (and_parts (test x) (every test xs) all).1
+pub every_at : {X : Type 0} (test : X → Bool) (xs : List X) (i : ℕ) (d : X) → i < length xs → every test xs ≡ true → test (get_or xs i d) ≡ true
+every_at test [] i d inside all = absurd (omega arith)
+every_at test (x ∷ xs) zero d inside all = (and_parts (test x) (every test xs) all).0
+every_at test (x ∷ xs) (suc i) d inside all = every_at test xs i d (omega arith) (and_parts (test x) (every test xs) all).1
 
 -- and the other way round
 pub every_true : {X : Type 0} (test : X → Bool) (xs : List X) → AllByRecursion (λ x. test x ≡ true) xs → every test xs ≡ true

@@ -10,17 +10,17 @@ pub record Sought (kind : Kind) (key : List ℕ) (f : ℕ → List ℕ) (n i : �
   pub is : standing kind key (drop i (map f (range_with_len 0 n))) ≡ found
 
 module _ {kind : Kind} {key : List ℕ} {f : ℕ → List ℕ} {n i : ℕ} {found : Option (List ℕ)} (s : Sought kind key f n i found) where
-  sought-by : i < n → (o : Ordering) → kind.key_order (key_of kind (f i)) key ≡ o → found_by o (f i) (standing kind key (drop (i + 1) (map f (range_with_len 0 n)))) ≡ found
-  sought-by lt o order = ap (λ o. found_by o (f i) (standing kind key (drop (i + 1) (map f (range_with_len 0 n))))) (sym order) ∙ sym (from_more f n (standing kind key) i lt) ∙ s.is
+  sought_by : i < n → (o : Ordering) → kind.key_order (key_of kind (f i)) key ≡ o → found_by o (f i) (standing kind key (drop (i + 1) (map f (range_with_len 0 n)))) ≡ found
+  sought_by lt o order = ap (λ o. found_by o (f i) (standing kind key (drop (i + 1) (map f (range_with_len 0 n))))) (sym order) ∙ sym (from_more f n (standing kind key) i lt) ∙ s.is
 
-  pub sought-more : i < n → kind.key_order (key_of kind (f i)) key ≡ Less → Sought kind key f n (i + 1) found
-  sought-more lt less = record { is = sought-by lt Less less }
+  pub sought_more : i < n → kind.key_order (key_of kind (f i)) key ≡ Less → Sought kind key f n (i + 1) found
+  sought_more lt less = record { is = sought_by lt Less less }
 
-  pub sought-here : i < n → kind.key_order (key_of kind (f i)) key ≡ Equal → Some (f i) ≡ found
-  sought-here lt equal = sought-by lt Equal equal
+  pub sought_here : i < n → kind.key_order (key_of kind (f i)) key ≡ Equal → Some (f i) ≡ found
+  sought_here lt equal = sought_by lt Equal equal
 
-  pub sought-past : i < n → kind.key_order (key_of kind (f i)) key ≡ Greater → None ≡ found
-  sought-past lt greater = sought-by lt Greater greater
+  pub sought_past : i < n → kind.key_order (key_of kind (f i)) key ≡ Greater → None ≡ found
+  sought_past lt greater = sought_by lt Greater greater
 
-  pub sought-all : n ≤ i → None ≡ found
-  sought-all past = sym (from_all f n (standing kind key) i past) ∙ s.is
+  pub sought_all : n ≤ i → None ≡ found
+  sought_all past = sym (from_all f n (standing kind key) i past) ∙ s.is

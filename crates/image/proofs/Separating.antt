@@ -18,8 +18,8 @@ module _ {kind : Kind} {key bytes : List ℕ} {f : ℕ → List ℕ} {n i below 
     is = omega (arith, s.is, is, from_more f n (separators_below kind key bytes i) i lt);
   }
 
-  pub separated-all : n ≤ i → below ≡ all
-  separated-all past = omega (arith, s.is, from_all f n (separators_below kind key bytes i) i past)
+  pub separated_all : n ≤ i → below ≡ all
+  separated_all past = omega (arith, s.is, from_all f n (separators_below kind key bytes i) i past)
 
 -- a flag as a number
 pub flag_is : (b : Bool) → (bool_byte b ≡ cond b 1 0) × (bool_byte b ≤ 1)

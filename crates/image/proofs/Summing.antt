@@ -10,12 +10,12 @@ pub record Summing {X : Type 0} (F : ℕ → List X → ℕ) (f : ℕ → X) (n 
   pub is : sum + F i (drop i (map f (range_with_len 0 n))) ≡ all
 
 module _ {X : Type 0} {F : ℕ → List X → ℕ} {f : ℕ → X} {n most i sum all : ℕ} (s : Summing F f n most i sum all) where
-  pub summing-more : (one : ℕ) {here : ℕ} → i < n → one ≡ here → ((rest : List X) → F i (f i ∷ rest) ≡ here + F (i + 1) rest) → one ≤ most → Summing F f n most (i + 1) (sum + one) all
-  summing-more one lt same step small =
+  pub summing_more : (one : ℕ) {here : ℕ} → i < n → one ≡ here → ((rest : List X) → F i (f i ∷ rest) ≡ here + F (i + 1) rest) → one ≤ most → Summing F f n most (i + 1) (sum + one) all
+  summing_more one lt same step small =
       record { few = omega (arith, s.few, small); is = omega (arith, s.is, same, step (drop (i + 1) (map f (range_with_len 0 n))), from_more f n (F i) i lt) }
 
-  pub summing-all : n ≤ i → F i [] ≡ 0 → sum ≡ all
-  summing-all past none = omega (arith, s.is, none, from_all f n (F i) i past)
+  pub summing_all : n ≤ i → F i [] ≡ 0 → sum ≡ all
+  summing_all past none = omega (arith, s.is, none, from_all f n (F i) i past)
 
 -- a flag as a number
 pub flag_is : (b : Bool) → (bool_byte b ≡ cond b 1 0) × (bool_byte b ≤ 1)

@@ -53,7 +53,7 @@ pub record ReadsBack (kind : Kind) (alpha : ℕ) (node : Node (List ℕ)) (bytes
 -- a node that fits has a block of 256 bytes, and it reads back
 pub record TreeBlockLaws (kind : Kind) (alpha : ℕ) (node : Node (List ℕ)) : Type 0 where
   pub block : Block (tree_block kind alpha node)
-  pub reads-back : ReadsBack kind alpha node (tree_block kind alpha node)
+  pub reads_back : ReadsBack kind alpha node (tree_block kind alpha node)
 
 abbrev pub TreeBlockReadsBack : Type 0
 TreeBlockReadsBack =
@@ -69,7 +69,7 @@ pub record CountsFit (s : Settings) (counts : Counts) : Type 0 where
 
 pub record HeadLaws (kind : Kind) (s : Settings) (chapter : ℕ) (counts : Counts) : Type 0 where
   pub block : Block (head_block kind s chapter counts)
-  pub reads-back : read_head kind (head_block kind s chapter counts) ≡ Some (record { settings = s; counts = counts; chapter = chapter })
+  pub reads_back : read_head kind (head_block kind s chapter counts) ≡ Some (record { settings = s; counts = counts; chapter = chapter })
 
 abbrev pub HeadReadsBack : Type 0
 HeadReadsBack =

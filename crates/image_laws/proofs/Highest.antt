@@ -13,8 +13,8 @@ module _ {X : Type 0} (order : X → X → Ordering) where
   highest-by a b o is = ap (λ o. elim o [ Less ↦ b | Equal ↦ a | Greater ↦ a ]) is
 
   -- what is true of both is true of the higher
-  pub highest-one : (P : X → Type 0) (a b : X) → P a → P b → P (highest a b)
-  highest-one P a b pa pb = go (order a b)
+  pub highest_one : (P : X → Type 0) (a b : X) → P a → P b → P (highest a b)
+  highest_one P a b pa pb = go (order a b)
     where
       go : (o : Ordering) → P (elim o [ Less ↦ b | Equal ↦ a | Greater ↦ a ])
       go Less = pb
@@ -22,15 +22,15 @@ module _ {X : Type 0} (order : X → X → Ordering) where
       go Greater = pa
 
   module _ {D : X → Type 0} (total : TotalOrder D order) where
-    pub highest-same : (a : X) → D a → highest a a ≡ a
-    highest-same a da = highest-by a a Equal (total.same a da)
+    pub highest_same : (a : X) → D a → highest a a ≡ a
+    highest_same a da = highest-by a a Equal (total.same a da)
 
     -- a comparison turned round
     pub turned : (a b : X) → D a → D b → (o : Ordering) → order a b ≡ o → order b a ≡ ordering_reverse o
     turned a b da db o is = total.mirror a b da db ∙ ap ordering_reverse is
 
-    pub highest-comm : (a b : X) → D a → D b → highest a b ≡ highest b a
-    highest-comm a b da db = go (order a b) refl
+    pub highest_comm : (a b : X) → D a → D b → highest a b ≡ highest b a
+    highest_comm a b da db = go (order a b) refl
       where
         go : (o : Ordering) → order a b ≡ o → highest a b ≡ highest b a
         go Less is = highest-by a b Less is ∙ sym (highest-by b a Greater (turned a b da db Less is))
@@ -54,21 +54,21 @@ module _ {X : Type 0} (order : X → X → Ordering) where
           go Equal to = over Equal to refl ∙ sym (ap (highest a) (highest-by b c Equal to) ∙ first)
           go Greater to = over Greater to refl ∙ sym (ap (highest a) (highest-by b c Greater to) ∙ first)
 
-    pub highest-assoc : (a b c : X) → D a → D b → D c → highest (highest a b) c ≡ highest a (highest b c)
-    highest-assoc a b c da db dc = go (order a b) refl
+    pub highest_assoc : (a b c : X) → D a → D b → D c → highest (highest a b) c ≡ highest a (highest b c)
+    highest_assoc a b c da db dc = go (order a b) refl
       where
-        equal-below : order a b ≡ Equal → (o : Ordering) → order b c ≡ o → is_lt o ≡ false → highest a c ≡ a
-        equal-below is Less to not = absurd (both_ways true not refl)
-        equal-below is Equal to not = highest-by a c Equal (subst (λ x. order x c ≡ Equal) (sym (total.equal a b da db is)) to)
-        equal-below is Greater to not = highest-by a c Greater (subst (λ x. order x c ≡ Greater) (sym (total.equal a b da db is)) to)
+        equal_below : order a b ≡ Equal → (o : Ordering) → order b c ≡ o → is_lt o ≡ false → highest a c ≡ a
+        equal_below is Less to not = absurd (both_ways true not refl)
+        equal_below is Equal to not = highest-by a c Equal (subst (λ x. order x c ≡ Equal) (sym (total.equal a b da db is)) to)
+        equal_below is Greater to not = highest-by a c Greater (subst (λ x. order x c ≡ Greater) (sym (total.equal a b da db is)) to)
 
-        above-below : order a b ≡ Greater → (o : Ordering) → order b c ≡ o → is_lt o ≡ false → highest a c ≡ a
-        above-below is Less to not = absurd (both_ways true not refl)
-        above-below is Equal to not = highest-by a c Greater (subst (λ x. order a x ≡ Greater) (total.equal b c db dc to) is)
-        above-below is Greater to not =
+        above_below : order a b ≡ Greater → (o : Ordering) → order b c ≡ o → is_lt o ≡ false → highest a c ≡ a
+        above_below is Less to not = absurd (both_ways true not refl)
+        above_below is Equal to not = highest-by a c Greater (subst (λ x. order a x ≡ Greater) (total.equal b c db dc to) is)
+        above_below is Greater to not =
             highest-by a c Greater (turned c a dc da Less (total.transitive c b a dc db da (turned b c db dc Greater to) (turned a b da db Greater is)))
 
         go : (o : Ordering) → order a b ≡ o → highest (highest a b) c ≡ highest a (highest b c)
         go Less is = below a b c da db dc is
-        go Equal is = stays a b c da db dc (highest-by a b Equal is) (equal-below is)
-        go Greater is = stays a b c da db dc (highest-by a b Greater is) (above-below is)
+        go Equal is = stays a b c da db dc (highest-by a b Equal is) (equal_below is)
+        go Greater is = stays a b c da db dc (highest-by a b Greater is) (above_below is)

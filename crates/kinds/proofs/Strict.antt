@@ -32,8 +32,8 @@ by_less p q o h = or_left (ltb p q) (eqb p q && is_lt o) (lt-ltb p q h)
 by_key : (p q : ℕ) (o : Ordering) → p ≡ q → o ≡ Less → by p q o ≡ true
 by_key p q o h k = or_right (ltb p q) (eqb p q && is_lt o) (and_from (eqb p q) (is_lt o) (eq-eqb p q h) (ap is_lt k))
 
-by-same : (p : ℕ) (o : Ordering) → o ≡ Equal → by p p o ≡ false
-by-same p o e =
+by_same : (p : ℕ) (o : Ordering) → o ≡ Equal → by p p o ≡ false
+by_same p o e =
     or_from (ltb p p) (eqb p p && is_lt o) (le-ltb p p (omega arith)) (and_right (eqb p p) (is_lt o) (ap is_lt e))
 
 by-false : (p q : ℕ) (o : Ordering) → by p q o ≡ false → (q ≤ p) × (p ≡ q → is_lt o ≡ false)
@@ -70,6 +70,6 @@ module _ (D : List ℕ → Type 0) (order : List ℕ → List ℕ → Ordering) 
       let mirrored = ap is_lt (sym (total.mirror a b da db)) ∙ second.1 (sym even) in
       total.equal a b da db (neither (order a b) (first.1 even) mirrored)
 
-  pub drawn-strict : StrictOrder D (drawn_before order)
-  drawn-strict =
-      record { irreflexive = λ a da. by-same (priority a) (order a a) (total.same a da); transitive = chained; connected = apart }
+  pub drawn_strict : StrictOrder D (drawn_before order)
+  drawn_strict =
+      record { irreflexive = λ a da. by_same (priority a) (order a a) (total.same a da); transitive = chained; connected = apart }

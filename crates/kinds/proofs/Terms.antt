@@ -9,33 +9,33 @@ use Rattle.kinds.specs.Rules.{is_printable, is_term, printable_then_zeros, start
 abbrev pub left : Bool → List ℕ → Bool
 left ended bs = cond ended (zeros bs) (printable_then_zeros bs)
 
-pub left-none : (ended : Bool) → left ended [] ≡ true
-left-none true = refl
-left-none false = refl
+pub left_none : (ended : Bool) → left ended [] ≡ true
+left_none true = refl
+left_none false = refl
 
-left-zero : (ended : Bool) (b : ℕ) (bs : List ℕ) → b ≡ 0 → left ended (b ∷ bs) ≡ left true bs
-left-zero true b bs e = ap (λ t. t && zeros bs) (eq-eqb b 0 e)
-left-zero false b bs e = cond-false (is_printable b) _ _ (ap is_printable e) ∙ ap (λ t. t && zeros bs) (eq-eqb b 0 e)
+left_zero : (ended : Bool) (b : ℕ) (bs : List ℕ) → b ≡ 0 → left ended (b ∷ bs) ≡ left true bs
+left_zero true b bs e = ap (λ t. t && zeros bs) (eq-eqb b 0 e)
+left_zero false b bs e = cond-false (is_printable b) _ _ (ap is_printable e) ∙ ap (λ t. t && zeros bs) (eq-eqb b 0 e)
 
 -- a turn of a loop over the bytes, at the byte of index i
 module _ (ended : Bool) (bytes : List ℕ) (i : ℕ) (lt : i < length bytes) where
   turn : (now : Bool) → ended ≡ now → left ended (drop i bytes) ≡ left now (get_or bytes i 0 ∷ drop (i + 1) bytes)
   turn now e = ap (λ t. left t (drop i bytes)) e ∙ at_drop_more (left now) bytes i 0 lt
 
-  pub turn-zero : get_or bytes i 0 ≡ 0 → left ended (drop i bytes) ≡ left true (drop (i + 1) bytes)
-  turn-zero e = turn ended refl ∙ left-zero ended (get_or bytes i 0) (drop (i + 1) bytes) e
+  pub turn_zero : get_or bytes i 0 ≡ 0 → left ended (drop i bytes) ≡ left true (drop (i + 1) bytes)
+  turn_zero e = turn ended refl ∙ left_zero ended (get_or bytes i 0) (drop (i + 1) bytes) e
 
-  pub turn-printable : ended ≡ false → is_printable (get_or bytes i 0) ≡ true → left ended (drop i bytes) ≡ left false (drop (i + 1) bytes)
-  turn-printable e p = turn false e ∙ cond-true (is_printable (get_or bytes i 0)) _ _ p
+  pub turn_printable : ended ≡ false → is_printable (get_or bytes i 0) ≡ true → left ended (drop i bytes) ≡ left false (drop (i + 1) bytes)
+  turn_printable e p = turn false e ∙ cond-true (is_printable (get_or bytes i 0)) _ _ p
 
-  pub turn-past : ended ≡ true → (get_or bytes i 0 ≡ 0 → ⊥) → left ended (drop i bytes) ≡ false
-  turn-past e ne = turn true e ∙ ap (λ t. t && zeros (drop (i + 1) bytes)) (ne_eqb (get_or bytes i 0) 0 ne)
+  pub turn_past : ended ≡ true → (get_or bytes i 0 ≡ 0 → ⊥) → left ended (drop i bytes) ≡ false
+  turn_past e ne = turn true e ∙ ap (λ t. t && zeros (drop (i + 1) bytes)) (ne_eqb (get_or bytes i 0) 0 ne)
 
-  pub turn-other : ended ≡ false → (get_or bytes i 0 ≡ 0 → ⊥) → is_printable (get_or bytes i 0) ≡ false → left ended (drop i bytes) ≡ false
-  turn-other e ne p =
+  pub turn_other : ended ≡ false → (get_or bytes i 0 ≡ 0 → ⊥) → is_printable (get_or bytes i 0) ≡ false → left ended (drop i bytes) ≡ false
+  turn_other e ne p =
       turn false e ∙ cond-false (is_printable (get_or bytes i 0)) _ _ p ∙
       ap (λ t. t && zeros (drop (i + 1) bytes)) (ne_eqb (get_or bytes i 0) 0 ne)
 
-pub term-rest : (bs : List ℕ) → 0 < length bs → starts_term (get_or bs 0 0) ≡ true → is_term bs ≡ printable_then_zeros (between 1 (length bs) bs)
-term-rest bs some starts =
+pub term_rest : (bs : List ℕ) → 0 < length bs → starts_term (get_or bs 0 0) ≡ true → is_term bs ≡ printable_then_zeros (between 1 (length bs) bs)
+term_rest bs some starts =
     ap is_term (first_rest bs 0 some) ∙ ap (λ t. t && printable_then_zeros (between 1 (length bs) bs)) starts

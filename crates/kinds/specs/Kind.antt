@@ -26,12 +26,12 @@ Keyed kind key message = Bytes message × (length message ≡ kind.width) × (ta
 
 -- what the author of a kind has to show
 pub record Lawful (kind : Kind) : Type 0 where
-  pub number-low : 1 ≤ kind.number
-  pub number-high : kind.number ≤ 255
+  pub number_low : 1 ≤ kind.number
+  pub number_high : kind.number ≤ 255
   pub width_low : 1 ≤ kind.width
-  pub width-high : kind.width ≤ 128
-  pub key-low : 1 ≤ kind.key_width
-  pub key-high : kind.key_width ≤ kind.width
+  pub width_high : kind.width ≤ 128
+  pub key_low : 1 ≤ kind.key_width
+  pub key_high : kind.key_width ≤ kind.width
   pub keys : TotalOrder (Key kind) kind.key_order
   pub ranks : (key : List ℕ) → TotalOrder (Keyed kind key) kind.rank_order
   pub measure : (message : List ℕ) → Bytes message → kind.measured message ≤ 1000

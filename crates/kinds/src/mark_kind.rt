@@ -3,7 +3,7 @@ ghost use Rattle.std.specs.Prelude.{◌≡◌, ◌≤◌, take, ◌==◌, slice_
 ghost use Rattle.kinds.specs.IndexMarks.{index_marks, mark_key, mark_rank};
 ghost use Rattle.std.proofs.Common.{arith, lit≤};
 ghost use Rattle.std.proofs.lemmas.Bool.{cond_both};
-ghost use Rattle.layout.proofs.Determined.{total-keys, total-ranks};
+ghost use Rattle.layout.proofs.Determined.{total_keys, total_ranks};
 
 use crate::kind::EntryKind;
 use crate::rules;
@@ -91,14 +91,14 @@ impl EntryKind for IndexMarks {
     ghost kind = { index_marks };
 
     ghost lawful = { record {
-      number-low = lit≤ tt;
-      number-high = lit≤ tt;
+      number_low = lit≤ tt;
+      number_high = lit≤ tt;
       width_low = lit≤ tt;
-      width-high = lit≤ tt;
-      key-low = lit≤ tt;
-      key-high = lit≤ tt;
-      keys = total-keys mark_key 21 refl;
-      ranks = total-ranks mark_rank 21 28 refl;
+      width_high = lit≤ tt;
+      key_low = lit≤ tt;
+      key_high = lit≤ tt;
+      keys = total_keys mark_key 21 refl;
+      ranks = total_ranks mark_rank 21 28 refl;
       measure = λ m h. cond_both (slice_index m 22 == 1) 1 0 (λ n. n ≤ 1000) (λ _. omega arith) (λ _. omega arith);
     } };
 

@@ -2,8 +2,8 @@
 ghost use Rattle.kinds.specs.Paragraphs.{paragraphs, paragraph_key, paragraph_rank};
 ghost use Rattle.std.specs.Prelude.{refl};
 ghost use Rattle.std.proofs.Common.{arith, lit≤};
-ghost use Rattle.layout.proofs.Determined.{total-keys, total-ranks};
-ghost use Rattle.layout.proofs.Fields.{byte-below};
+ghost use Rattle.layout.proofs.Determined.{total_keys, total_ranks};
+ghost use Rattle.layout.proofs.Fields.{byte_below};
 
 use crate::kind::EntryKind;
 use crate::rules;
@@ -47,15 +47,15 @@ impl EntryKind for Paragraphs {
     ghost kind = { paragraphs };
 
     ghost lawful = { record {
-      number-low = lit≤ tt;
-      number-high = lit≤ tt;
+      number_low = lit≤ tt;
+      number_high = lit≤ tt;
       width_low = lit≤ tt;
-      width-high = lit≤ tt;
-      key-low = lit≤ tt;
-      key-high = lit≤ tt;
-      keys = total-keys paragraph_key 5 refl;
-      ranks = total-ranks paragraph_rank 5 16 refl;
-      measure = λ m h. let below = byte-below m 7 h in omega arith;
+      width_high = lit≤ tt;
+      key_low = lit≤ tt;
+      key_high = lit≤ tt;
+      keys = total_keys paragraph_key 5 refl;
+      ranks = total_ranks paragraph_rank 5 16 refl;
+      measure = λ m h. let below = byte_below m 7 h in omega arith;
     } };
 
     fn kind_number() -> u8 {

@@ -10,7 +10,7 @@ use Rattle.layout.specs.Layout.{by_fields, value, values}
 use Rattle.layout.specs.Orders.{TotalOrder}
 use Rattle.layout.specs.declared.Field.{Field}
 use Rattle.layout.specs.declared.Field.TheVariants.{Byte, Folded, Number}
-use Rattle.layout.proofs.Comparisons.{total-by-numbers}
+use Rattle.layout.proofs.Comparisons.{total_by_numbers}
 
 -- the field has the byte at an offset; a folded byte tells less than the byte
 abbrev pub has : Field → ℕ → Bool
@@ -34,8 +34,8 @@ same_number : (xs ys : List ℕ) → Bytes xs → Bytes ys → length xs ≡ len
 same_number xs ys hx hy len e = sym (le-number xs hx) ∙ ap₂ le len e ∙ le-number ys hy
 
 module _ (a b : List ℕ) (ha : Bytes a) (hb : Bytes b) (len : length a ≡ length b) where
-  same-four : (at i : ℕ) → number (take 4 (drop at a)) ≡ number (take 4 (drop at b)) → at ≤ i → i < at + 4 → get_or a i 0 ≡ get_or b i 0
-  same-four at i e low high =
+  same_four : (at i : ℕ) → number (take 4 (drop at a)) ≡ number (take 4 (drop at b)) → at ≤ i → i < at + 4 → get_or a i 0 ≡ get_or b i 0
+  same_four at i e low high =
       let part : take 4 (drop at a) ≡ take 4 (drop at b) = same_number _ _ (All-take _ 4 _ (All-drop _ at a ha)) (All-take _ 4 _ (All-drop _ at b hb)) (simp (length-take, length-drop) (omega arith)) e in
       let k : i - at < 4 = omega arith in
       let place : at + (i - at) ≡ i = omega arith in
@@ -47,7 +47,7 @@ module _ (a b : List ℕ) (ha : Bytes a) (hb : Bytes b) (len : length a ≡ leng
   same_at (Folded at) i e t = absurd (false≢true t)
   same_at (Number at) i e t =
       let both = and_parts (leb at i) (ltb i (at + 4)) t in
-      same-four at i e (leb-true at i both.0) (ltb-true i (at + 4) both.1)
+      same_four at i e (leb-true at i both.0) (ltb-true i (at + 4) both.1)
 
   same_of : (fields : List Field) (i : ℕ) → values fields a ≡ values fields b → have fields i ≡ true → get_or a i 0 ≡ get_or b i 0
   same_of [] i e t = absurd (false≢true t)
@@ -70,16 +70,16 @@ module _ (a b : List ℕ) (ha : Bytes a) (hb : Bytes b) (len : length a ≡ leng
       (or_cases (ltb i known) (have fields i) (cover i lt)))
 
 -- an order of keys by fields that take in all of a key
-pub total-keys : (fields : List Field) (width : ℕ) → all_covered fields 0 width ≡ true →
+pub total_keys : (fields : List Field) (width : ℕ) → all_covered fields 0 width ≡ true →
     TotalOrder (λ key. Bytes key × (length key ≡ width)) (by_fields fields)
-total-keys fields width t =
-    total-by-numbers _ (values fields)
+total_keys fields width t =
+    total_by_numbers _ (values fields)
     (λ a b ha hb e. determined a b ha.0 hb.0 (ha.1 ∙ sym hb.1) fields 0 (ap (all_covered fields 0) ha.1 ∙ t) refl e)
 
 -- an order of messages with one key, by fields that take in all bytes after the key
-pub total-ranks : (fields : List Field) (key_width width : ℕ) → all_covered fields key_width width ≡ true →
+pub total_ranks : (fields : List Field) (key_width width : ℕ) → all_covered fields key_width width ≡ true →
     (key : List ℕ) → TotalOrder (λ message. Bytes message × (length message ≡ width) × (take key_width message ≡ key)) (by_fields fields)
-total-ranks fields key_width width t key =
-    total-by-numbers _ (values fields)
+total_ranks fields key_width width t key =
+    total_by_numbers _ (values fields)
     (λ a b ha hb e.
     determined a b ha.0 hb.0 (ha.1 ∙ sym hb.1) fields key_width (ap (all_covered fields key_width) ha.1 ∙ t) (ha.2 ∙ sym hb.2) e)

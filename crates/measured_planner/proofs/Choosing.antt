@@ -5,18 +5,18 @@ use Rattle.std.proofs.ByRecursion.{all-has, all_has_itself, All-weaker, has_push
 use Rattle.std.proofs.lemmas.Bool.{both_ways, cases_order, cases_lt, cases_Bool, lt-ltb, le-ltb, ltb-true, ltb-false}
 use Rattle.tree.specs.Tree.{drawn_before, among_earliest}
 use Rattle.tree.specs.Laws.{Strict}
-use Rattle.tree.proofs.Counting.{drawn_before-le, drawn_before-lt, drawn_before-le-length, one-first}
+use Rattle.tree.proofs.Counting.{drawn_before-le, drawn_before-lt, drawn_before-le-length, one_first}
 use Rattle.tree.proofs.Lists.{all_join}
 use Rattle.measured_planner.specs.Steps.{Earliest, PlaceMade}
 
 -- what is true of everything is true of each element
-pub all-unit : {X : Type 0} (xs : List X) → AllByRecursion (λ (_ : X). Unit {0}) xs
-all-unit [] = tt
-all-unit (x ∷ xs) = (tt, all-unit xs)
+pub all_unit : {X : Type 0} (xs : List X) → AllByRecursion (λ (_ : X). Unit {0}) xs
+all_unit [] = tt
+all_unit (x ∷ xs) = (tt, all_unit xs)
 
-pub drawn_before-push : {X : Type 0} (before : X → X → Bool) (ys : List X) (x c : X) → drawn_before before (ys ++ x ∷ []) c ≡ drawn_before before ys c + cond (before x c) 1 0
-drawn_before-push before [] x c = omega arith
-drawn_before-push before (y ∷ ys) x c = go (before y c) (drawn_before-push before ys x c)
+pub drawn_before_push : {X : Type 0} (before : X → X → Bool) (ys : List X) (x c : X) → drawn_before before (ys ++ x ∷ []) c ≡ drawn_before before ys c + cond (before x c) 1 0
+drawn_before_push before [] x c = omega arith
+drawn_before_push before (y ∷ ys) x c = go (before y c) (drawn_before_push before ys x c)
   where
     go : (t : Bool) → drawn_before before (ys ++ x ∷ []) c ≡ drawn_before before ys c + cond (before x c) 1 0 → cond t (1 + drawn_before before (ys ++ x ∷ []) c) (drawn_before before (ys ++ x ∷ []) c) ≡ cond t (1 + drawn_before before ys c) (drawn_before before ys c) + cond (before x c) 1 0
     go true h = omega arith
@@ -24,8 +24,8 @@ drawn_before-push before (y ∷ ys) x c = go (before y c) (drawn_before-push bef
 
 module _ {before : ℕ → ℕ → Bool} (strict : Strict (λ (_ : ℕ). Unit {0}) before) where
   -- of ys, fewer are drawn before c than before what is drawn after c
-  pub fewer-before : (ys : List ℕ) (c b : ℕ) → Has ys c → before c b ≡ true → drawn_before before ys c < drawn_before before ys b
-  fewer-before ys c b has h = all-has (λ a. before a b ≡ true → drawn_before before ys a < drawn_before before ys b) ys c (drawn_before-lt strict ys b (all-unit ys) tt) has h
+  pub fewer_before : (ys : List ℕ) (c b : ℕ) → Has ys c → before c b ≡ true → drawn_before before ys c < drawn_before before ys b
+  fewer_before ys c b has h = all-has (λ a. before a b ≡ true → drawn_before before ys a < drawn_before before ys b) ys c (drawn_before-lt strict ys b (all_unit ys) tt) has h
 
   module _ (ys : List ℕ) (x count limit at : ℕ) (old new : List ℕ)
       (counted : count ≡ min limit (length ys))
@@ -34,11 +34,11 @@ module _ {before : ℕ → ℕ → Bool} (strict : Strict (λ (_ : ℕ). Unit {0
       (made : PlaceMade before old count limit x at new)
       (stops : 0 < at → before x (get_or old (at - 1) 0) ≡ false) where
     -- the rank at the last place before x's is drawn before x
-    last-before : 0 < at → before (get_or old (at - 1) 0) x ≡ true
-    last-before some =
+    last_before : 0 < at → before (get_or old (at - 1) 0) x ≡ true
+    last_before some =
         let c = get_or old (at - 1) 0 in
         let has : Has ys c = (chosen (at - 1) (omega (arith, made.behind))).0 in
-        ⊎_elim (λ h. h.0) (λ h. absurd (both_ways _ (stops some) h.1)) (one-first strict c x tt tt (apart c has))
+        ⊎_elim (λ h. h.0) (λ h. absurd (both_ways _ (stops some) h.1)) (one_first strict c x tt tt (apart c has))
 
     -- and so is each before that
     none_before : (j : ℕ) → j < at → before x (get_or old j 0) ≡ false
@@ -50,20 +50,20 @@ module _ {before : ℕ → ℕ → Bool} (strict : Strict (λ (_ : ℕ). Unit {0
             let c = get_or old (at - 1) 0 in
             let last = chosen (at - 1) (omega (arith, made.behind)) in
             let here = chosen j (omega (arith, made.behind)) in
-            omega (arith, fewer-before ys c (get_or old j 0) last.0 (strict.transitive c x (get_or old j 0) tt tt tt (last-before some) h), last.1, here.1)
+            omega (arith, fewer_before ys c (get_or old j 0) last.0 (strict.transitive c x (get_or old j 0) tt tt tt (last_before some) h), last.1, here.1)
 
     -- before x are drawn as many as stand below its place
-    own-place : at < limit → drawn_before before ys x ≡ at
-    own-place fits = omega (arith, low (cases_lt 0 at), high (cases_lt at count))
+    own_place : at < limit → drawn_before before ys x ≡ at
+    own_place fits = omega (arith, low (cases_lt 0 at), high (cases_lt at count))
       where
         low : (0 < at) ⊎ (at ≤ 0) → at ≤ drawn_before before ys x
         low (inl some) =
             let last = chosen (at - 1) (omega (arith, made.behind)) in
-            omega (arith, fewer-before ys (get_or old (at - 1) 0) x last.0 (last-before some), last.1)
+            omega (arith, fewer_before ys (get_or old (at - 1) 0) x last.0 (last_before some), last.1)
         low (inr none) = omega arith
 
         high : (at < count) ⊎ (count ≤ at) → drawn_before before ys x ≤ at
-        high (inl within) = omega (arith, drawn_before-le strict ys x (get_or old at 0) (all-unit ys) tt tt (made.later at (omega arith) within), (chosen at within).1)
+        high (inl within) = omega (arith, drawn_before-le strict ys x (get_or old at 0) (all_unit ys) tt tt (made.later at (omega arith) within), (chosen at within).1)
         high (inr past) = omega (arith, drawn_before-le-length before ys x, made.behind)
 
     -- a list that has x at its place, and else what `new` has, is right for ys and x
@@ -73,11 +73,11 @@ module _ {before : ℕ → ℕ → Bool} (strict : Strict (λ (_ : ℕ). Unit {0
       carried i j t within same test place =
           rw same (
             has_append_left ys (x ∷ []) (get_or old j 0) (chosen j within).0,
-            drawn_before-push before ys x (get_or old j 0) ∙ rw (test, (chosen j within).1) place,
+            drawn_before_push before ys x (get_or old j 0) ∙ rw (test, (chosen j within).1) place,
           )
 
-      pub earliest-more : Earliest before (ys ++ x ∷ []) (min limit (length ys + 1)) final
-      earliest-more j below = go (cases_order j at)
+      pub earliest_more : Earliest before (ys ++ x ∷ []) (min limit (length ys + 1)) final
+      earliest_more j below = go (cases_order j at)
         where
           go : (j ≡ at) ⊎ ((j < at) ⊎ (at < j)) → Has (ys ++ x ∷ []) (get_or final j 0) × (drawn_before before (ys ++ x ∷ []) (get_or final j 0) ≡ j)
           go (inl here) =
@@ -85,7 +85,7 @@ module _ {before : ℕ → ℕ → Bool} (strict : Strict (λ (_ : ℕ). Unit {0
               let same : get_or final j 0 ≡ x = ap (λ i. get_or final i 0) here ∙ own fits in
               rw same (
                 has_push ys x,
-                drawn_before-push before ys x x ∙ rw (strict.irreflexive x tt) (omega (arith, own-place fits)),
+                drawn_before_push before ys x x ∙ rw (strict.irreflexive x tt) (omega (arith, own_place fits)),
               )
           go (inr (inl less)) =
               carried j j false (omega (arith, made.behind)) (others j (λ e. omega arith) ∙ made.kept j less) (none_before j less) (omega arith)
@@ -96,15 +96,15 @@ module _ {before : ℕ → ℕ → Bool} (strict : Strict (λ (_ : ℕ). Unit {0
               (made.later (j - 1) (omega arith) (omega arith)) (omega arith)
 
   -- what is not drawn after the rank at place j is among the j + 1 earliest
-  pub among-by-last : (xs : List ℕ) (j c : ℕ) → Has xs c → drawn_before before xs c ≡ j → AllByRecursion (λ x. not (before c x) ≡ among_earliest before (j + 1) xs x) xs
-  among-by-last xs j c has place = All-weaker (Has xs) _ told xs (all_has_itself xs)
+  pub among_by_last : (xs : List ℕ) (j c : ℕ) → Has xs c → drawn_before before xs c ≡ j → AllByRecursion (λ x. not (before c x) ≡ among_earliest before (j + 1) xs x) xs
+  among_by_last xs j c has place = All-weaker (Has xs) _ told xs (all_has_itself xs)
     where
       told : (x : ℕ) → Has xs x → not (before c x) ≡ among_earliest before (j + 1) xs x
       told x within = go (cases_Bool (before c x)) (cases_Bool (before x c))
         where
           go : (before c x ≡ true) ⊎ (before c x ≡ false) → (before x c ≡ true) ⊎ (before x c ≡ false) → not (before c x) ≡ among_earliest before (j + 1) xs x
-          go (inl after) q = rw after (sym (le-ltb _ _ (omega (arith, fewer-before xs c x has after))))
-          go (inr h) (inl first) = rw h (sym (lt-ltb _ _ (omega (arith, fewer-before xs x c within first))))
+          go (inl after) q = rw after (sym (le-ltb _ _ (omega (arith, fewer_before xs c x has after))))
+          go (inr h) (inl first) = rw h (sym (lt-ltb _ _ (omega (arith, fewer_before xs x c within first))))
           go (inr h) (inr k) =
               let same : drawn_before before xs c ≡ drawn_before before xs x = ap (drawn_before before xs) (strict.connected c x tt tt h k) in
               rw h (sym (lt-ltb _ _ (omega arith)))
@@ -122,8 +122,8 @@ module _ {before : ℕ → ℕ → Bool} (strict : Strict (λ (_ : ℕ). Unit {0
       go false h = omega arith
 
   -- so among the k earliest are the same for each k from their number on
-  pub among-enough : (xs : List ℕ) (k m : ℕ) → min k (length xs) ≡ m → AllByRecursion (λ x. among_earliest before m xs x ≡ among_earliest before k xs x) xs
-  among-enough xs k m least = All-weaker (Has xs) _ (λ x has. told x (drawn_before-lt-length xs x has)) xs (all_has_itself xs)
+  pub among_enough : (xs : List ℕ) (k m : ℕ) → min k (length xs) ≡ m → AllByRecursion (λ x. among_earliest before m xs x ≡ among_earliest before k xs x) xs
+  among_enough xs k m least = All-weaker (Has xs) _ (λ x has. told x (drawn_before-lt-length xs x has)) xs (all_has_itself xs)
     where
       told : (x : ℕ) → drawn_before before xs x < length xs → among_earliest before m xs x ≡ among_earliest before k xs x
       told x less = go (cases_lt (drawn_before before xs x) k)
@@ -134,16 +134,16 @@ module _ {before : ℕ → ℕ → Bool} (strict : Strict (λ (_ : ℕ). Unit {0
 
   module _ (xs : List ℕ) (alpha : ℕ) (chosen : List ℕ) (picked : Earliest before xs (min alpha (length xs)) chosen) where
     -- the last of the earliest tells what is among them
-    pub told-by : (k : ℕ) → 0 < k → k ≤ min alpha (length xs) → AllByRecursion (λ x. not (before (get_or chosen (k - 1) 0) x) ≡ among_earliest before k xs x) xs
-    told-by k some within =
+    pub told_by : (k : ℕ) → 0 < k → k ≤ min alpha (length xs) → AllByRecursion (λ x. not (before (get_or chosen (k - 1) 0) x) ≡ among_earliest before k xs x) xs
+    told_by k some within =
         let place = picked (k - 1) (omega arith) in
         let up : k - 1 + 1 ≡ k = omega arith in
-        rw up at (among-by-last xs (k - 1) (get_or chosen (k - 1) 0) place.0 place.1)
+        rw up at (among_by_last xs (k - 1) (get_or chosen (k - 1) 0) place.0 place.1)
 
-    pub block-told : (m : ℕ) → m ≡ min alpha (length xs) → 0 < m → AllByRecursion (λ x. not (before (get_or chosen (m - 1) 0) x) ≡ among_earliest before alpha xs x) xs
-    block-told m least some = all_join (λ x p q. p ∙ q) xs (told-by m some (omega arith)) (among-enough xs alpha m (sym least))
+    pub block_told : (m : ℕ) → m ≡ min alpha (length xs) → 0 < m → AllByRecursion (λ x. not (before (get_or chosen (m - 1) 0) x) ≡ among_earliest before alpha xs x) xs
+    block_told m least some = all_join (λ x p q. p ∙ q) xs (told_by m some (omega arith)) (among_enough xs alpha m (sym least))
 
     -- and tells it too where there may be none
-    pub active-told : (k s : ℕ) (divides : Bool) → divides ≡ ltb 0 k → k ≤ min alpha (length xs) → (divides ≡ true → s ≡ get_or chosen (k - 1) 0) → AllByRecursion (λ x. (divides && not (before s x)) ≡ among_earliest before k xs x) xs
-    active-told k s true test within last = rw (last refl) (told-by k (ltb-true 0 k (sym test)) within)
-    active-told k s false test within last = All-weaker (λ _. Unit {0}) _ (λ x _. sym (le-ltb (drawn_before before xs x) k (omega (arith, ltb-false 0 k (sym test))))) xs (all-unit xs)
+    pub active_told : (k s : ℕ) (divides : Bool) → divides ≡ ltb 0 k → k ≤ min alpha (length xs) → (divides ≡ true → s ≡ get_or chosen (k - 1) 0) → AllByRecursion (λ x. (divides && not (before s x)) ≡ among_earliest before k xs x) xs
+    active_told k s true test within last = rw (last refl) (told_by k (ltb-true 0 k (sym test)) within)
+    active_told k s false test within last = All-weaker (λ _. Unit {0}) _ (λ x _. sym (le-ltb (drawn_before before xs x) k (omega (arith, ltb-false 0 k (sym test))))) xs (all_unit xs)

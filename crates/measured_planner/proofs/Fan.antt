@@ -4,5 +4,5 @@ use Rattle.tree.specs.Tree.{fan_out}
 use Rattle.tree.proofs.Sections.{fan_out-le}
 
 -- active separators come only with more entries than the block can hold
-pub fan-within : (alpha rho n : ℕ) → 1 ≤ rho → fan_out alpha rho n - 1 ≤ min alpha n
-fan-within alpha rho n h = omega (arith, fan_out-le alpha rho n h)
+pub fan_within : (alpha rho n : ℕ) → 1 ≤ rho → fan_out alpha rho n - 1 ≤ min alpha n
+fan_within alpha rho n h = omega (arith, fan_out-le alpha rho n h)

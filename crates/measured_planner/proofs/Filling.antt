@@ -10,17 +10,17 @@ use Rattle.std.proofs.lemmas.Simd.{mask_l-lt, ones-mask_l}
 use Rattle.std.proofs.lemmas.List.{append-nil, append_assoc, length-append, length_push, length-map, map_push, set_at, take-append-drop, drop_more}
 use Rattle.std.proofs.lemmas.List.Sums.{length-filter}
 use Rattle.fields.specs.Numbers.{filled}
-use Rattle.tree.proofs.Lists.{count_by-kept}
+use Rattle.tree.proofs.Lists.{count_by_kept}
 
 filled_more : {X : Type 0} (n : ℕ) (blank : X) (ys : List X) (x : X) → length ys < n → set (filled n blank ys) (length ys) x ≡ filled n blank (ys ++ x ∷ [])
 filled_more n blank ys x less =
     let left : n - length ys ≡ suc (n - length (ys ++ x ∷ [])) = omega (arith, length_push ys x) in
     rw left (set_at ys blank (replicate (n - length (ys ++ x ∷ [])) blank) x (length ys) refl ∙ sym (append_assoc ys (x ∷ []) _))
 
-mask-push : (bs : List Bool) (b : Bool) → mask_of (bs ++ b ∷ []) ≡ mask_of bs + cond b (2 ^ length bs) 0
-mask-push [] true = refl
-mask-push [] false = refl
-mask-push (a ∷ bs) b = go b (mask-push bs b)
+mask_push : (bs : List Bool) (b : Bool) → mask_of (bs ++ b ∷ []) ≡ mask_of bs + cond b (2 ^ length bs) 0
+mask_push [] true = refl
+mask_push [] false = refl
+mask_push (a ∷ bs) b = go b (mask_push bs b)
   where
     go : (b : Bool) → mask_of (bs ++ b ∷ []) ≡ mask_of bs + cond b (2 ^ length bs) 0 → cond a 1 0 + 2 * mask_of (bs ++ b ∷ []) ≡ cond a 1 0 + 2 * mask_of bs + cond b (2 ^ suc (length bs)) 0
     go true h = rw pow-suc (omega arith)
@@ -36,8 +36,8 @@ module _ (p q : ℕ → Bool) (front : List ℕ) (x : ℕ) where
   kept_push : (t : Bool) → p x ≡ t → filter p (front ++ x ∷ []) ≡ filter p front ++ cond t (x ∷ []) []
   kept_push t h = filter-append p front (x ∷ []) ∙ rw h refl
 
-  pub filled-skip : (entries : List ℕ) (count mask : ℕ) → p x ≡ false → Filled p q front entries count mask → Filled p q (front ++ x ∷ []) entries count mask
-  filled-skip entries count mask h f =
+  pub filled_skip : (entries : List ℕ) (count mask : ℕ) → p x ≡ false → Filled p q front entries count mask → Filled p q (front ++ x ∷ []) entries count mask
+  filled_skip entries count mask h f =
       let same : filter p (front ++ x ∷ []) ≡ filter p front = kept_push false h ∙ append-nil _ in
       record { holds = rw same f.holds; counted = rw same f.counted; marked = rw same f.marked }
 
@@ -47,7 +47,7 @@ module _ (p q : ℕ → Bool) (front : List ℕ) (x : ℕ) where
       record {
         holds = rw (more, f.holds, f.counted) (filled_more 16 0 (filter p front) x (omega (arith, f.counted)));
         counted = rw (more, length_push (filter p front) x) (ap (λ n. n + 1) f.counted);
-        marked = new ∙ rw (more, map_push q (filter p front) x, mask-push (map q (filter p front)) (q x), length-map (filter p front) q) (go (q x));
+        marked = new ∙ rw (more, map_push q (filter p front) x, mask_push (map q (filter p front)) (q x), length-map (filter p front) q) (go (q x));
       }
     where
       below : mask < 2 ^ count
@@ -59,12 +59,12 @@ module _ (p q : ℕ → Bool) (front : List ℕ) (x : ℕ) where
       go false = omega (arith, f.marked)
 
 -- an entry that is still to come has a place
-pub place-left : (p : ℕ → Bool) (xs : List ℕ) (i : ℕ) → i < length xs → p (get_or xs i 0) ≡ true → length (filter p (take i xs)) < length (filter p xs)
-place-left p xs i within h =
+pub place_left : (p : ℕ → Bool) (xs : List ℕ) (i : ℕ) → i < length xs → p (get_or xs i 0) ≡ true → length (filter p (take i xs)) < length (filter p xs)
+place_left p xs i within h =
     let parts : filter p xs ≡ filter p (take i xs) ++ filter p (drop i xs) = ap (filter p) (sym (take-append-drop i xs)) ∙ filter-append p (take i xs) (drop i xs) in
     let here : filter p (drop i xs) ≡ get_or xs i 0 ∷ filter p (drop (i + 1) xs) = ap (filter p) (drop_more xs i 0 within) ∙ rw h refl in
     rw (parts, here) (omega (arith, length-append (filter p (take i xs)) (get_or xs i 0 ∷ filter p (drop (i + 1) xs))))
 
 -- the mask has a one for each active separator, if those are in the block
-pub ones-marks : (p q : ℕ → Bool) (xs : List ℕ) → AllByRecursion (λ x. q x ≡ true → p x ≡ true) xs → ones (mask_of (map q (filter p xs))) ≡ length (filter q xs)
-ones-marks p q xs among = ones-mask_l q (filter p xs) ∙ count_by-kept p q xs among ∙ sym (length-filter q xs)
+pub ones_marks : (p q : ℕ → Bool) (xs : List ℕ) → AllByRecursion (λ x. q x ≡ true → p x ≡ true) xs → ones (mask_of (map q (filter p xs))) ≡ length (filter q xs)
+ones_marks p q xs among = ones-mask_l q (filter p xs) ∙ count_by_kept p q xs among ∙ sym (length-filter q xs)

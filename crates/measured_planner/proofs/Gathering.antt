@@ -15,9 +15,9 @@ onto-into_first : {X : Type 0} (front : List X) (x : X) (parts : List (List X)) 
 onto-into_first front x [] = refl
 onto-into_first front x (s ∷ parts) = ap (λ l. l ∷ parts) (sym (append_assoc front (x ∷ []) s))
 
-onto-none : {X : Type 0} (parts : List (List X)) → 0 < length parts → onto [] parts ≡ parts
-onto-none [] some = absurd (omega arith)
-onto-none (s ∷ parts) some = refl
+onto_none : {X : Type 0} (parts : List (List X)) → 0 < length parts → onto [] parts ≡ parts
+onto_none [] some = absurd (omega arith)
+onto_none (s ∷ parts) some = refl
 
 module _ {X : Type 0} (separator taken : X → Bool) where
   -- zs began as xs. What belongs to the first section in the first i of xs stands in the first k places of zs, and from i on zs is
@@ -29,10 +29,10 @@ module _ {X : Type 0} (separator taken : X → Bool) where
     pub within : i ≤ length xs
     pub long : length zs ≡ length xs
 
-  pub gathering-none : (xs : List X) → Gathering xs xs 0 0
-  gathering-none xs =
+  pub gathering_none : (xs : List X) → Gathering xs xs 0 0
+  gathering_none xs =
       record {
-        parts = sym (onto-none (cut separator taken xs) (omega (arith, length_cut separator taken xs)));
+        parts = sym (onto_none (cut separator taken xs) (omega (arith, length_cut separator taken xs)));
         rest = refl;
         behind = omega arith;
         within = omega arith;
@@ -40,45 +40,45 @@ module _ {X : Type 0} (separator taken : X → Bool) where
       }
 
   module _ (xs zs : List X) (k i : ℕ) (x d : X) (sofar : Gathering xs zs k i) (inside : i < length zs) (read : x ≡ get_or zs i d) where
-    pub rest-next : drop (i + 1) zs ≡ drop (i + 1) xs
-    rest-next = sym (drop-drop 1 i zs) ∙ ap (drop 1) sofar.rest ∙ drop-drop 1 i xs
+    pub rest_next : drop (i + 1) zs ≡ drop (i + 1) xs
+    rest_next = sym (drop-drop 1 i zs) ∙ ap (drop 1) sofar.rest ∙ drop-drop 1 i xs
 
     same_next : drop i xs ≡ x ∷ drop (i + 1) xs
-    same_next = sym sofar.rest ∙ drop_more zs i d inside ∙ ap₂ ◌∷◌ (sym read) rest-next
+    same_next = sym sofar.rest ∙ drop_more zs i d inside ∙ ap₂ ◌∷◌ (sym read) rest_next
 
-    pub gathered-to : separator x ≡ true → cut separator taken xs ≡ take k zs ∷ cut separator taken (drop (i + 1) xs)
-    gathered-to h = sofar.parts ∙ rw (same_next, h) (ap (λ l. l ∷ cut separator taken (drop (i + 1) xs)) (append-nil (take k zs)))
+    pub gathered_to : separator x ≡ true → cut separator taken xs ≡ take k zs ∷ cut separator taken (drop (i + 1) xs)
+    gathered_to h = sofar.parts ∙ rw (same_next, h) (ap (λ l. l ∷ cut separator taken (drop (i + 1) xs)) (append-nil (take k zs)))
 
-    pub gathering-skip : separator x ≡ false → taken x ≡ true → Gathering xs zs k (i + 1)
-    gathering-skip h t =
+    pub gathering_skip : separator x ≡ false → taken x ≡ true → Gathering xs zs k (i + 1)
+    gathering_skip h t =
         record {
           parts = sofar.parts ∙ rw (same_next, h, t) refl;
-          rest = rest-next;
+          rest = rest_next;
           behind = omega (arith, sofar.behind);
           within = omega (arith, sofar.long);
           long = sofar.long;
         }
 
-    pub gathering-more : separator x ≡ false → taken x ≡ false → Gathering xs (set zs k x) (k + 1) (i + 1)
-    gathering-more h t =
+    pub gathering_more : separator x ≡ false → taken x ≡ false → Gathering xs (set zs k x) (k + 1) (i + 1)
+    gathering_more h t =
         record {
           parts = sofar.parts ∙ rw (same_next, h, t, take_more_set zs k x (omega (arith, sofar.behind))) (onto-into_first (take k zs) x _);
-          rest = drop-set-lt (i + 1) zs k x (omega (arith, sofar.behind)) ∙ rest-next;
+          rest = drop-set-lt (i + 1) zs k x (omega (arith, sofar.behind)) ∙ rest_next;
           behind = omega (arith, sofar.behind);
           within = omega (arith, sofar.long);
           long = length-set zs k x ∙ sofar.long;
         }
 
-  pub gathered-all : (xs zs : List X) (k i : ℕ) → Gathering xs zs k i → length xs ≤ i → cut separator taken xs ≡ take k zs ∷ []
-  gathered-all xs zs k i sofar past = sofar.parts ∙ rw (drop_all i xs past) (ap (λ l. l ∷ []) (append-nil (take k zs)))
+  pub gathered_all : (xs zs : List X) (k i : ℕ) → Gathering xs zs k i → length xs ≤ i → cut separator taken xs ≡ take k zs ∷ []
+  gathered_all xs zs k i sofar past = sofar.parts ∙ rw (drop_all i xs past) (ap (λ l. l ∷ []) (append-nil (take k zs)))
 
 -- the measures of the first k of zs, summed; each is a number of two bytes
 pub record Summed (measures zs : List ℕ) (k sum : ℕ) : Type 0 where
   pub is : sum ≡ measure_of measures (take k zs)
   pub small : sum ≤ k * 65535
 
-pub summed-more : (measures zs : List ℕ) (k sum x m : ℕ) → k < length zs → m ≡ get_or measures x 0 → m ≤ 65535 → Summed measures zs k sum → Summed measures (set zs k x) (k + 1) (sum + m)
-summed-more measures zs k sum x m inside read low sofar =
+pub summed_more : (measures zs : List ℕ) (k sum x m : ℕ) → k < length zs → m ≡ get_or measures x 0 → m ≤ 65535 → Summed measures zs k sum → Summed measures (set zs k x) (k + 1) (sum + m)
+summed_more measures zs k sum x m inside read low sofar =
     record {
       is = rw (take_more_set zs k x inside) (omega (arith, sofar.is, read, sum_by_push (λ i. get_or measures i 0) (take k zs) x));
       small = omega (arith, sofar.small, low);

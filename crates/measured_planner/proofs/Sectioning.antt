@@ -10,7 +10,7 @@ use Rattle.std.proofs.lemmas.Slice.{drop-append-drop}
 use Rattle.std.proofs.lemmas.List.Sums.{sum_by-append}
 use Rattle.tree.specs.Laws.{Distinct}
 use Rattle.tree.specs.Tree.{Node, forest, numbered}
-use Rattle.tree.proofs.Cutting.{together, length_cut, pairwise-cut}
+use Rattle.tree.proofs.Cutting.{together, length_cut, pairwise_cut}
 use Rattle.measured_planner.specs.declared.bounds.Bounds.{Bounds}
 use Rattle.measured_planner.specs.declared.row.Row.{Row}
 use Rattle.measured_planner.specs.declared.row.SectionRow.{SectionRow}
@@ -21,16 +21,16 @@ use Rattle.measured_planner.specs.Subtrees.{visits}
 use Rattle.measured_planner.proofs.Placing.{sets-append}
 
 module _ (ps : List ℕ) (b : Bounds) (xs : List ℕ) where
-  pub some-part : 0 < length (cut_by ps b xs)
-  some-part = omega (arith, length_cut (separates ps b) (in_block ps b) xs)
+  pub some_part : 0 < length (cut_by ps b xs)
+  some_part = omega (arith, length_cut (separates ps b) (in_block ps b) xs)
 
   -- what is known of the first section
   module _ (s : List ℕ) (parts : List (List ℕ)) (are : cut_by ps b xs ≡ s ∷ parts) where
-    pub left-first : left_by ps b xs ≡ length s + length (together parts)
-    left-first = ap (λ l. length (together l)) are ∙ length-append s (together parts)
+    pub left_first : left_by ps b xs ≡ length s + length (together parts)
+    left_first = ap (λ l. length (together l)) are ∙ length-append s (together parts)
 
-    pub apart-first : Distinct xs → Distinct s
-    apart-first apart = (subst (AllByRecursion Distinct) are (pairwise-cut (separates ps b) (in_block ps b) _ xs apart)).0
+    pub apart_first : Distinct xs → Distinct s
+    apart_first apart = (subst (AllByRecursion Distinct) are (pairwise_cut (separates ps b) (in_block ps b) _ xs apart)).0
 
 -- what the work area holds from `end` on, once ys stands for the first `count` of zs
 abbrev pub rest_of : (zs ys : List ℕ) (count end : ℕ) → List ℕ
@@ -46,12 +46,12 @@ module _ (ps : List ℕ) (b : Bounds) (xs zs : List ℕ) (count end : ℕ) (firs
       go (inr more) = (cut_by ps b (drop end xs), rw (sub-zero count) more)
 
   -- it is the last, or others come after it
-  pub last-part : length (cut_by ps b xs) ≡ 1 → cut_by ps b xs ≡ take (count - 0) zs ∷ []
-  last-part one = go first.sections
+  pub last_part : length (cut_by ps b xs) ≡ 1 → cut_by ps b xs ≡ take (count - 0) zs ∷ []
+  last_part one = go first.sections
     where
       go : ((cut_by ps b xs ≡ take count zs ∷ []) × (end ≡ length xs)) ⊎ (cut_by ps b xs ≡ take count zs ∷ cut_by ps b (drop end xs)) → cut_by ps b xs ≡ take (count - 0) zs ∷ []
       go (inl last) = rw (sub-zero count) last.0
-      go (inr more) = absurd (omega (arith, ap length more, some-part ps b (drop end xs)))
+      go (inr more) = absurd (omega (arith, ap length more, some_part ps b (drop end xs)))
 
   -- the last section ends with xs
   pub last_end : length (cut_by ps b xs) ≡ 1 → end ≡ length xs
@@ -59,18 +59,18 @@ module _ (ps : List ℕ) (b : Bounds) (xs zs : List ℕ) (count end : ℕ) (firs
     where
       go : ((cut_by ps b xs ≡ take count zs ∷ []) × (end ≡ length xs)) ⊎ (cut_by ps b xs ≡ take count zs ∷ cut_by ps b (drop end xs)) → end ≡ length xs
       go (inl last) = last.1
-      go (inr more) = absurd (omega (arith, ap length more, some-part ps b (drop end xs)))
+      go (inr more) = absurd (omega (arith, ap length more, some_part ps b (drop end xs)))
 
   module _ (long : length zs ≡ length xs) where
-    pub length-first : length (take (count - 0) zs) ≡ count
-    length-first = rw (sub-zero count) (length-take-le count zs (omega (arith, first.behind, first.within)))
+    pub length_first : length (take (count - 0) zs) ≡ count
+    length_first = rw (sub-zero count) (length-take-le count zs (omega (arith, first.behind, first.within)))
 
     module _ (ys : List ℕ) (same : length ys ≡ length (take (count - 0) zs)) where
       -- what lies past the section is as it was, whatever became of the section
-      pub rest-kept : rest_of zs ys count end ≡ drop end xs
-      rest-kept =
+      pub rest_kept : rest_of zs ys count end ≡ drop end xs
+      rest_kept =
           take_rest (ys ++ post_of 0 (count - 0) zs) end
-          ∙ drop-append-drop (count - 0) zs ys end (omega (arith, first.behind)) (omega (arith, same, length-first))
+          ∙ drop-append-drop (count - 0) zs ys end (omega (arith, first.behind)) (omega (arith, same, length_first))
           ∙ first.rest
 
       pub more_parts : (length (cut_by ps b xs) ≡ 1 → ⊥) → cut_by ps b xs ≡ take (count - 0) zs ∷ cut_by ps b (rest_of zs ys count end)
@@ -78,15 +78,15 @@ module _ (ps : List ℕ) (b : Bounds) (xs zs : List ℕ) (count end : ℕ) (firs
         where
           go : ((cut_by ps b xs ≡ take count zs ∷ []) × (end ≡ length xs)) ⊎ (cut_by ps b xs ≡ take count zs ∷ cut_by ps b (drop end xs)) → cut_by ps b xs ≡ take (count - 0) zs ∷ cut_by ps b (rest_of zs ys count end)
           go (inl last) = absurd (several (ap length last.0))
-          go (inr more) = rw (sub-zero count) more ∙ ap (λ l. take (count - 0) zs ∷ cut_by ps b l) (sym rest-kept)
+          go (inr more) = rw (sub-zero count) more ∙ ap (λ l. take (count - 0) zs ∷ cut_by ps b l) (sym rest_kept)
 
 module _ (below : ℕ → List ℕ → List (Node ℕ)) (none : (k : ℕ) → below k [] ≡ []) where
   -- the rows of sections, the first of them apart
-  noted-first : (measures : List ℕ) (k : ℕ) (s : List ℕ) (parts : List (List ℕ)) (n m : ℕ) → n ≡ length s → m ≡ measure_of measures s → map (section_row measures) (numbered below k (s ∷ parts)) ≡ section_from k n m ∷ map (section_row measures) (numbered below (k + length (below k s)) parts)
-  noted-first measures k [] parts n m is sums =
+  noted_first : (measures : List ℕ) (k : ℕ) (s : List ℕ) (parts : List (List ℕ)) (n m : ℕ) → n ≡ length s → m ≡ measure_of measures s → map (section_row measures) (numbered below k (s ∷ parts)) ≡ section_from k n m ∷ map (section_row measures) (numbered below (k + length (below k s)) parts)
+  noted_first measures k [] parts n m is sums =
       let block = ap (λ n. cond (eqb n 0) 0 k) is in
       ap₂ ◌∷◌ (λ i. record { block = sym block i; weight = sym is i; measure = sym sums i }) (ap (λ at. map (section_row measures) (numbered below at parts)) (sym (ap (λ l. k + length l) (none k) ∙ add-zero k)))
-  noted-first measures k (x ∷ s) parts n m is sums =
+  noted_first measures k (x ∷ s) parts n m is sums =
       let block = ap (λ n. cond (eqb n 0) 0 k) is ∙ ap (λ b. cond b 0 k) (eqb-suc-zero (length s)) in
       ap (λ r. r ∷ map (section_row measures) (numbered below (k + length (below k (x ∷ s))) parts)) (λ i. record { block = sym block i; weight = sym is i; measure = sym sums i })
 
@@ -99,12 +99,12 @@ module _ (below : ℕ → List ℕ → List (Node ℕ)) (none : (k : ℕ) → be
         ∙ rw (now', next, are, split, map-append (row_of measures) (below k s) (forest below (k + length (below k s)) parts))
         (sym (sets-append t (k - 1) (map (row_of measures) (below k s)) (map (row_of measures) (forest below (k + length (below k s)) parts))))
 
-    pub noted-on : (measures : List ℕ) (l : List SectionRow) (at : ℕ) (row : SectionRow) (n m : ℕ) → row ≡ section_from k n m → n ≡ length s → m ≡ measure_of measures s → sets (set l at row) (at + 1) (map (section_row measures) (numbered below (k + blocks) parts)) ≡ sets l at (map (section_row measures) (numbered below k all))
-    noted-on measures l at row n m noted is sums =
-        rw (noted, split, noted-first measures k s parts n m is sums, are, add-one at)
+    pub noted_on : (measures : List ℕ) (l : List SectionRow) (at : ℕ) (row : SectionRow) (n m : ℕ) → row ≡ section_from k n m → n ≡ length s → m ≡ measure_of measures s → sets (set l at row) (at + 1) (map (section_row measures) (numbered below (k + blocks) parts)) ≡ sets l at (map (section_row measures) (numbered below k all))
+    noted_on measures l at row n m noted is sums =
+        rw (noted, split, noted_first measures k s parts n m is sums, are, add-one at)
 
-    pub count-on : blocks + length (forest below (k + blocks) parts) ≡ length (forest below k all)
-    count-on = rw (split, are) (sym (length-append (below k s) (forest below (k + length (below k s)) parts)))
+    pub count_on : blocks + length (forest below (k + blocks) parts) ≡ length (forest below k all)
+    count_on = rw (split, are) (sym (length-append (below k s) (forest below (k + length (below k s)) parts)))
 
-    pub visits-on : visits (below k s) + visits (forest below (k + blocks) parts) ≡ visits (forest below k all)
-    visits-on = rw (split, are) (sym (sum_by-append (λ node. 3 * node.weight) (below k s) (forest below (k + length (below k s)) parts)))
+    pub visits_on : visits (below k s) + visits (forest below (k + blocks) parts) ≡ visits (forest below k all)
+    visits_on = rw (split, are) (sym (sum_by-append (λ node. 3 * node.weight) (below k s) (forest below (k + length (below k s)) parts)))

@@ -3,15 +3,15 @@ use Rattle.std.proofs.Common.{◌≡◌, ℕ, true, false, List, ◌∷◌, ◌+
 use Rattle.std.specs.Bool.{then_some}
 use Rattle.fields.proofs.Numbers.{number-le}
 use Rattle.fields.specs.Numbers.{Bytes, le}
-use Rattle.layout.proofs.Fields.{tests-passed}
+use Rattle.layout.proofs.Fields.{tests_passed}
 use Rattle.layout.specs.Layout.{byte_at, number_at}
 use Rattle.kinds.specs.Paragraphs.{paragraph_invalid, paragraph_tests, paragraphs}
 use Rattle.kinds.specs.Rules.{is_state}
 use Rattle.messages.specs.Paragraph.{Narrow, decoded, encoded, read}
 use Rattle.messages.specs.Messages.{is_message}
 use Rattle.messages.specs.declared.paragraph_message.Paragraph.{Paragraph}
-use Rattle.messages.proofs.Parts.{byte-before, number-before, number-last, number-of-state, state-of-number}
-use Rattle.messages.proofs.Validity.{is-message, message-length, message-valid}
+use Rattle.messages.proofs.Parts.{byte_before, number-before, number_last, number_of_state, state_of_number}
+use Rattle.messages.proofs.Validity.{is_message_lem, message_length, message_valid_lem}
 
 read-encoded : (p : Paragraph) → Narrow p → read (encoded p) ≡ p
 read-encoded p narrow =
@@ -20,7 +20,7 @@ read-encoded p narrow =
       place = number-le 4 p.place narrow.place i;
       origin = p.origin;
       sender = p.sender;
-      state = state-of-number p.state i;
+      state = state_of_number p.state i;
       lines = p.lines;
       stamp = number-le 4 p.stamp narrow.stamp i;
       text = number-le 4 p.text narrow.text i;
@@ -28,20 +28,20 @@ read-encoded p narrow =
 
 pub decoded-encoded : (p : Paragraph) → Narrow p → paragraph_invalid (encoded p) ≡ None → decoded (encoded p) ≡ Some p
 decoded-encoded p narrow valid =
-    ap (λ t. then_some t (read (encoded p))) (is-message paragraphs (encoded p) refl (ap is_some valid)) ∙
+    ap (λ t. then_some t (read (encoded p))) (is_message_lem paragraphs (encoded p) refl (ap is_some valid)) ∙
     ap Some (read-encoded p narrow)
 
-state-valid : (m : List ℕ) → is_some (paragraph_invalid m) ≡ false → is_state (byte_at m 6) ≡ true
-state-valid m valid = (tests-passed (paragraph_tests m) valid).1.1.0
+state_valid : (m : List ℕ) → is_some (paragraph_invalid m) ≡ false → is_state (byte_at m 6) ≡ true
+state_valid m valid = (tests_passed (paragraph_tests m) valid).1.1.0
 
 pub encoded-read : (m : List ℕ) → Bytes m → is_message paragraphs m ≡ true → encoded (read m) ≡ m
 encoded-read m bytes message =
-    let len = message-length paragraphs m message in
-    let state = number-of-state (byte_at m 6) (state-valid m (message-valid paragraphs m message)) in
-    let end = number-last m 12 bytes (omega arith) in
+    let len = message_length paragraphs m message in
+    let state = number_of_state (byte_at m 6) (state_valid m (message_valid_lem paragraphs m message)) in
+    let end = number_last m 12 bytes (omega arith) in
     let stamp = ap (λ rest. le 4 (number_at m 8) ++ rest) end ∙ number-before m 8 bytes (omega arith) in
-    let lines = ap (λ rest. byte_at m 7 ∷ rest) stamp ∙ byte-before m 7 (omega arith) in
-    let states = ap₂ ◌∷◌ state lines ∙ byte-before m 6 (omega arith) in
-    let sender = ap (λ rest. byte_at m 5 ∷ rest) states ∙ byte-before m 5 (omega arith) in
-    let origin = ap (λ rest. byte_at m 4 ∷ rest) sender ∙ byte-before m 4 (omega arith) in
+    let lines = ap (λ rest. byte_at m 7 ∷ rest) stamp ∙ byte_before m 7 (omega arith) in
+    let states = ap₂ ◌∷◌ state lines ∙ byte_before m 6 (omega arith) in
+    let sender = ap (λ rest. byte_at m 5 ∷ rest) states ∙ byte_before m 5 (omega arith) in
+    let origin = ap (λ rest. byte_at m 4 ∷ rest) sender ∙ byte_before m 4 (omega arith) in
     ap (λ rest. le 4 (number_at m 0) ++ rest) origin ∙ number-before m 0 bytes (omega arith)

@@ -19,12 +19,12 @@ le_four n =
     let third : n / 16777216 % 256 ≡ n / 256 / 256 / 256 % 256 = omega arith in
     λ i. n % 256 ∷ n / 256 % 256 ∷ second i ∷ third i ∷ []
 
-pub state-of-number : (s : State) → state_of (state_number s) ≡ s
-state-of-number Set = refl
-state-of-number Cut = refl
+pub state_of_number : (s : State) → state_of (state_number s) ≡ s
+state_of_number Set = refl
+state_of_number Cut = refl
 
-pub number-of-state : (n : ℕ) → is_state n ≡ true → state_number (state_of n) ≡ n
-number-of-state n valid =
+pub number_of_state : (n : ℕ) → is_state n ≡ true → state_number (state_of n) ≡ n
+number_of_state n valid =
     ⊎_elim (λ set. ap state_number (cond-true (is_set n) _ _ set) ∙ sym (eqb-true n 1 set))
     (λ other.
     ⊎_elim (λ set. ap state_number (cond-true (is_set n) _ _ set) ∙ sym (eqb-true n 1 set))
@@ -33,8 +33,8 @@ number-of-state n valid =
     (cases_Bool (is_set n))
 
 -- a byte, and a number of four bytes, before what follows it in the message
-pub byte-before : (m : List ℕ) (i : ℕ) → i < length m → byte_at m i ∷ drop (i + 1) m ≡ drop i m
-byte-before m i lt = sym (drop_more m i 0 lt)
+pub byte_before : (m : List ℕ) (i : ℕ) → i < length m → byte_at m i ∷ drop (i + 1) m ≡ drop i m
+byte_before m i lt = sym (drop_more m i 0 lt)
 
 pub number-before : (m : List ℕ) (i : ℕ) → Bytes m → i + 4 ≤ length m → le 4 (number_at m i) ++ drop (i + 4) m ≡ drop i m
 number-before m i bytes fits =
@@ -43,17 +43,17 @@ number-before m i bytes fits =
     let again : le 4 (number part) ≡ part = ap (λ n. le n (number part)) (sym four) ∙ le-number part (All-take _ 4 (drop i m) (All-drop _ i m bytes)) in
     ap₂ ◌++◌ again (sym (drop-drop 4 i m)) ∙ take-append-drop 4 (drop i m)
 
-pub number-last : (m : List ℕ) (i : ℕ) → Bytes m → i + 4 ≡ length m → le 4 (number_at m i) ≡ drop i m
-number-last m i bytes end =
+pub number_last : (m : List ℕ) (i : ℕ) → Bytes m → i + 4 ≡ length m → le 4 (number_at m i) ≡ drop i m
+number_last m i bytes end =
     let none : drop (i + 4) m ≡ [] = drop_all (i + 4) m (omega arith) in
     sym (append-nil _) ∙ ap (λ rest. le 4 (number_at m i) ++ rest) (sym none) ∙ number-before m i bytes (omega arith)
 
 -- the same field, counted from the start of a part
-pub number-within : (m : List ℕ) (n i : ℕ) → number_at m (n + i) ≡ number_at (drop n m) i
-number-within m n i = ap (λ part. number (take 4 part)) (sym (drop-drop i n m))
+pub number_within : (m : List ℕ) (n i : ℕ) → number_at m (n + i) ≡ number_at (drop n m) i
+number_within m n i = ap (λ part. number (take 4 part)) (sym (drop-drop i n m))
 
-pub byte-within : (m : List ℕ) (n i : ℕ) → byte_at m (n + i) ≡ byte_at (drop n m) i
-byte-within m n i = sym (get_or-drop n m i 0)
+pub byte_within : (m : List ℕ) (n i : ℕ) → byte_at m (n + i) ≡ byte_at (drop n m) i
+byte_within m n i = sym (get_or-drop n m i 0)
 
 -- what is written over the last part of a list
 pub put_last : (front old new : List ℕ) (n k : ℕ) → length front ≡ n → length old ≡ k → put_mid n k (front ++ old) new ≡ front ++ new

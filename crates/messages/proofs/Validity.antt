@@ -6,14 +6,14 @@ use Rattle.kinds.specs.Kind.{Kind}
 use Rattle.messages.specs.Messages.{is_message}
 
 module _ (kind : Kind) (m : List ℕ) where
-  pub message-length : is_message kind m ≡ true → length m ≡ kind.width
-  message-length h = eqb-true (length m) kind.width (and_parts _ _ h).0
+  pub message_length : is_message kind m ≡ true → length m ≡ kind.width
+  message_length h = eqb-true (length m) kind.width (and_parts _ _ h).0
 
-  pub message-valid : is_message kind m ≡ true → is_some (kind.invalid m) ≡ false
-  message-valid h = not-true (is_some (kind.invalid m)) (and_parts (eqb (length m) kind.width) _ h).1
+  pub message_valid_lem : is_message kind m ≡ true → is_some (kind.invalid m) ≡ false
+  message_valid_lem h = not-true (is_some (kind.invalid m)) (and_parts (eqb (length m) kind.width) _ h).1
 
-  pub is-message : length m ≡ kind.width → is_some (kind.invalid m) ≡ false → is_message kind m ≡ true
-  is-message len valid = and_from _ _ (eq-eqb (length m) kind.width len) (not_from_false (is_some (kind.invalid m)) valid)
+  pub is_message_lem : length m ≡ kind.width → is_some (kind.invalid m) ≡ false → is_message kind m ≡ true
+  is_message_lem len valid = and_from _ _ (eq-eqb (length m) kind.width len) (not_from_false (is_some (kind.invalid m)) valid)
 
 -- what a decoded message answers, and that it encodes to the message again
 module _ {X : Type 0} (kind : Kind) (read : List ℕ → X) (encoded : X → List ℕ) (m : List ℕ) (r : X) (got : r ≡ read m) where

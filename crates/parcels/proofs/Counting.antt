@@ -13,44 +13,44 @@ length_front width (suc n) bytes = go (read_item width bytes) (length_front widt
     go (Some p) others = omega (arith, others p.1)
 
 -- the two counts are those of all items
-both-le : (xs : List ItemValue) → messages_in xs + notes_in xs ≡ length xs
-both-le [] = refl
-both-le (message bs ∷ xs) = omega (arith, both-le xs)
-both-le (note bs ∷ xs) = omega (arith, both-le xs)
+both_le : (xs : List ItemValue) → messages_in xs + notes_in xs ≡ length xs
+both_le [] = refl
+both_le (message bs ∷ xs) = omega (arith, both_le xs)
+both_le (note bs ∷ xs) = omega (arith, both_le xs)
 
 abbrev values : List (ℕ × ItemValue) → List ItemValue
 values ps = map (λ p. p.1) ps
 
-values-numbered : (k : ℕ) (xs : List ItemValue) → values (numbered k xs) ≡ xs
-values-numbered k [] = refl
-values-numbered k (x ∷ xs) = ap (λ l. x ∷ l) (values-numbered (k + 1) xs)
+values_numbered : (k : ℕ) (xs : List ItemValue) → values (numbered k xs) ≡ xs
+values_numbered k [] = refl
+values_numbered k (x ∷ xs) = ap (λ l. x ∷ l) (values_numbered (k + 1) xs)
 
 -- so many messages and notes were passed, and these items are still to come
 pub record Counted (all : List ItemValue) (messages notes : ℕ) (left : List (ℕ × ItemValue)) : Type 0 where
   pub few : length all < 2 ^ 16
-  pub of-messages : messages + messages_in (values left) ≡ messages_in all
-  pub of-notes : notes + notes_in (values left) ≡ notes_in all
+  pub of_messages : messages + messages_in (values left) ≡ messages_in all
+  pub of_notes : notes + notes_in (values left) ≡ notes_in all
 
 pub counted_none : (all : List ItemValue) (left : List (ℕ × ItemValue)) → length all < 2 ^ 16 → left ≡ numbered 1 all → Counted all 0 0 left
 counted_none all left few is =
-    let whole : values left ≡ all = ap values is ∙ values-numbered 1 all in
-    record { few = few; of-messages = omega (arith, ap messages_in whole); of-notes = omega (arith, ap notes_in whole) }
+    let whole : values left ≡ all = ap values is ∙ values_numbered 1 all in
+    record { few = few; of_messages = omega (arith, ap messages_in whole); of_notes = omega (arith, ap notes_in whole) }
 
 -- no count is larger than the number of items
-pub counted-fits : {all : List ItemValue} {messages notes : ℕ} {left : List (ℕ × ItemValue)} → Counted all messages notes left → (messages < 2 ^ 16) × (notes < 2 ^ 16)
-counted-fits {all} h = (omega (arith, h.few, h.of-messages, both-le all), omega (arith, h.few, h.of-notes, both-le all))
+pub counted_fits : {all : List ItemValue} {messages notes : ℕ} {left : List (ℕ × ItemValue)} → Counted all messages notes left → (messages < 2 ^ 16) × (notes < 2 ^ 16)
+counted_fits {all} h = (omega (arith, h.few, h.of_messages, both_le all), omega (arith, h.few, h.of_notes, both_le all))
 
 -- the same items, with one fewer to come and one count higher
 moved : {all : List ItemValue} {messages notes : ℕ} {left : List (ℕ × ItemValue)} → Counted all messages notes left → (m n : ℕ) (after : List (ℕ × ItemValue)) → m + messages_in (values after) ≡ messages + messages_in (values left) → n + notes_in (values after) ≡ notes + notes_in (values left) → Counted all m n after
-moved h m n after of-messages of-notes = record { few = h.few; of-messages = of-messages ∙ h.of-messages; of-notes = of-notes ∙ h.of-notes }
+moved h m n after of_messages of_notes = record { few = h.few; of_messages = of_messages ∙ h.of_messages; of_notes = of_notes ∙ h.of_notes }
 
 module _ {all : List ItemValue} {messages notes : ℕ} {after : List (ℕ × ItemValue)} {k : ℕ} {bs : List ℕ} where
-  pub message-counted : {left : List (ℕ × ItemValue)} → Counted all messages notes left → left ≡ (k, message bs) ∷ after → Counted all (messages + 1) notes after
-  message-counted h is = moved h (messages + 1) notes after (rw is (omega arith)) (rw is refl)
+  pub message_counted : {left : List (ℕ × ItemValue)} → Counted all messages notes left → left ≡ (k, message bs) ∷ after → Counted all (messages + 1) notes after
+  message_counted h is = moved h (messages + 1) notes after (rw is (omega arith)) (rw is refl)
 
-  pub note-counted : {left : List (ℕ × ItemValue)} → Counted all messages notes left → left ≡ (k, note bs) ∷ after → Counted all messages (notes + 1) after
-  note-counted h is = moved h messages (notes + 1) after (rw is refl) (rw is (omega arith))
+  pub note_counted : {left : List (ℕ × ItemValue)} → Counted all messages notes left → left ≡ (k, note bs) ∷ after → Counted all messages (notes + 1) after
+  note_counted h is = moved h messages (notes + 1) after (rw is refl) (rw is (omega arith))
 
 -- nothing is left
-pub counted-all : {all : List ItemValue} {messages notes : ℕ} {left : List (ℕ × ItemValue)} → Counted all messages notes left → left ≡ [] → record { messages : messages ≡ messages_in all; notes : notes ≡ notes_in all }
-counted-all {messages = m} {notes = n} h is = let end = moved h m n [] (rw is refl) (rw is refl) in record { messages = omega (arith, end.of-messages); notes = omega (arith, end.of-notes) }
+pub counted_all : {all : List ItemValue} {messages notes : ℕ} {left : List (ℕ × ItemValue)} → Counted all messages notes left → left ≡ [] → record { messages : messages ≡ messages_in all; notes : notes ≡ notes_in all }
+counted_all {messages = m} {notes = n} h is = let end = moved h m n [] (rw is refl) (rw is refl) in record { messages = omega (arith, end.of_messages); notes = omega (arith, end.of_notes) }

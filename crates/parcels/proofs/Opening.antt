@@ -7,31 +7,31 @@ use Rattle.fields.specs.Numbers.{Bytes}
 use Rattle.parcels.specs.Format.{ItemValue, message, note, encode_item, ItemFits}
 use Rattle.parcels.specs.Reading.{cut_item, read_note, read_item, read_items}
 
-pub none-some : {X : Type 0} {x : X} → None ≡ Some x → ⊥
-none-some e = let z : ◌≡◌ {A = ℕ} 0 1 = cc in omega arith
+pub none_some : {X : Type 0} {x : X} → None ≡ Some x → ⊥
+none_some e = let z : ◌≡◌ {A = ℕ} 0 1 = cc in omega arith
 
-cut-is : (k : ℕ) (item : List ℕ → ItemValue) (rest bs after : List ℕ) → k ≤ length rest → bs ≡ take k rest → after ≡ drop k rest → Some (item bs, after) ≡ cut_item k item rest
-cut-is k item rest bs after long front back =
+cut_is : (k : ℕ) (item : List ℕ → ItemValue) (rest bs after : List ℕ) → k ≤ length rest → bs ≡ take k rest → after ≡ drop k rest → Some (item bs, after) ≡ cut_item k item rest
+cut_is k item rest bs after long front back =
     (λ i. Some (item (front i), back i)) ∙ sym (cond-true _ _ _ (le-leb k (length rest) long))
 
 -- a message as a slice pattern takes it off the front
-pub message-is : (width : ℕ) (bytes bs after : List ℕ) → 1 ≤ length bytes → get_or bytes 0 0 ≡ 1 → let rest = take (length bytes - 1) (drop 1 bytes) in width ≤ length rest → bs ≡ take width rest → after ≡ drop width rest → Some (message bs, after) ≡ read_item width bytes
-message-is width [] bs after some first long front back = absurd (omega arith)
-message-is width (b ∷ rest) bs after some first long front back = rw first (rw (take_rest (b ∷ rest) 1) at (cut-is width message _ bs after long front back))
+pub message_is : (width : ℕ) (bytes bs after : List ℕ) → 1 ≤ length bytes → get_or bytes 0 0 ≡ 1 → let rest = take (length bytes - 1) (drop 1 bytes) in width ≤ length rest → bs ≡ take width rest → after ≡ drop width rest → Some (message bs, after) ≡ read_item width bytes
+message_is width [] bs after some first long front back = absurd (omega arith)
+message_is width (b ∷ rest) bs after some first long front back = rw first (rw (take_rest (b ∷ rest) 1) at (cut_is width message _ bs after long front back))
 
 -- a note, with its length n
-pub note-is : (width n : ℕ) (bytes bs after : List ℕ) → 2 ≤ length bytes → get_or bytes 0 0 ≡ 2 → n ≡ get_or bytes 1 0 → let rest = take (length bytes - 2) (drop 2 bytes) in n ≤ length rest → bs ≡ take n rest → after ≡ drop n rest → Some (note bs, after) ≡ read_item width bytes
-note-is width n [] bs after some first second long front back = absurd (omega arith)
-note-is width n (b ∷ []) bs after some first second long front back = absurd (omega arith)
-note-is width n (b ∷ m ∷ rest) bs after some first second long front back = rw (first, ← second) (rw (take_rest (b ∷ m ∷ rest) 2) at (cut-is n note _ bs after long front back))
+pub note_is : (width n : ℕ) (bytes bs after : List ℕ) → 2 ≤ length bytes → get_or bytes 0 0 ≡ 2 → n ≡ get_or bytes 1 0 → let rest = take (length bytes - 2) (drop 2 bytes) in n ≤ length rest → bs ≡ take n rest → after ≡ drop n rest → Some (note bs, after) ≡ read_item width bytes
+note_is width n [] bs after some first second long front back = absurd (omega arith)
+note_is width n (b ∷ []) bs after some first second long front back = absurd (omega arith)
+note_is width n (b ∷ m ∷ rest) bs after some first second long front back = rw (first, ← second) (rw (take_rest (b ∷ m ∷ rest) 2) at (cut_is n note _ bs after long front back))
 
 -- what a cut gives: an item of the first k bytes, and the bytes after them
-cut-from : (k : ℕ) (item : List ℕ → ItemValue) (bytes : List ℕ) (p : ItemValue × List ℕ) → cut_item k item bytes ≡ Some p → (k ≤ length bytes) × ((item (take k bytes), drop k bytes) ≡ p)
-cut-from k item bytes p e = go (leb k (length bytes)) refl e
+cut_from : (k : ℕ) (item : List ℕ → ItemValue) (bytes : List ℕ) (p : ItemValue × List ℕ) → cut_item k item bytes ≡ Some p → (k ≤ length bytes) × ((item (take k bytes), drop k bytes) ≡ p)
+cut_from k item bytes p e = go (leb k (length bytes)) refl e
   where
     go : (t : Bool) → leb k (length bytes) ≡ t → cond t (Some (item (take k bytes), drop k bytes)) None ≡ Some p → (k ≤ length bytes) × ((item (take k bytes), drop k bytes) ≡ p)
     go true long e = (leb-true k (length bytes) long, cc)
-    go false short e = absurd (none-some e)
+    go false short e = absurd (none_some e)
 
 -- an item that is read was written at the front
 pub record Opens (width : ℕ) (bytes : List ℕ) (p : ItemValue × List ℕ) : Type 0 where
@@ -39,21 +39,21 @@ pub record Opens (width : ℕ) (bytes : List ℕ) (p : ItemValue × List ℕ) : 
   pub fits : Bytes bytes → ItemFits width p.0
 
 pub opens : (width : ℕ) (bytes : List ℕ) (p : ItemValue × List ℕ) → read_item width bytes ≡ Some p → Opens width bytes p
-opens width [] p e = absurd (none-some e)
+opens width [] p e = absurd (none_some e)
 opens width (first ∷ rest) p e = go (eqb first 1) (eqb first 2) refl refl e
   where
-    of-message : first ≡ 1 → cut_item width message rest ≡ Some p → Opens width (first ∷ rest) p
-    of-message is e =
-        let cut = cut-from width message rest p e in
+    of_message : first ≡ 1 → cut_item width message rest ≡ Some p → Opens width (first ∷ rest) p
+    of_message is e =
+        let cut = cut_from width message rest p e in
         subst (Opens width (first ∷ rest)) cut.1 (record {
           front = ap₂ ◌∷◌ is (sym (take-append-drop width rest));
           fits = λ _. length-take-le width rest cut.0;
         })
 
-    of-note : (rest : List ℕ) → first ≡ 2 → read_note rest ≡ Some p → Opens width (first ∷ rest) p
-    of-note [] is e = absurd (none-some e)
-    of-note (n ∷ rest) is e =
-        let cut = cut-from n note rest p e in
+    of_note : (rest : List ℕ) → first ≡ 2 → read_note rest ≡ Some p → Opens width (first ∷ rest) p
+    of_note [] is e = absurd (none_some e)
+    of_note (n ∷ rest) is e =
+        let cut = cut_from n note rest p e in
         let long = length-take-le n rest cut.0 in
         subst (Opens width (first ∷ n ∷ rest)) cut.1 (record {
           front = ap₂ ◌∷◌ is (ap₂ ◌∷◌ (sym long) (sym (take-append-drop n rest)));
@@ -61,35 +61,35 @@ opens width (first ∷ rest) p e = go (eqb first 1) (eqb first 2) refl refl e
         })
 
     go : (s t : Bool) → eqb first 1 ≡ s → eqb first 2 ≡ t → cond s (cut_item width message rest) (cond t (read_note rest) None) ≡ Some p → Opens width (first ∷ rest) p
-    go true t is-message is-note e = of-message (eqb-true first 1 is-message) e
-    go false true is-message is-note e = of-note rest (eqb-true first 2 is-note) e
-    go false false is-message is-note e = absurd (none-some e)
+    go true t is_message_lem is-note e = of_message (eqb-true first 1 is_message_lem) e
+    go false true is_message_lem is-note e = of_note rest (eqb-true first 2 is-note) e
+    go false false is_message_lem is-note e = absurd (none_some e)
 
 -- the bytes after an item are no more than those before it
 pub length-after : (width : ℕ) (bytes : List ℕ) (p : ItemValue × List ℕ) → read_item width bytes ≡ Some p → length p.1 ≤ length bytes
 length-after width bytes p e = omega (arith, simp length-append at (ap length (opens width bytes p e).front))
 
-pub err_part-mapped : {X Y : Type 0} (f : X → Y) (r : Result X (ℕ × ℕ)) → result_err (result_map_both f (λ e. e) r) ≡ result_err r
-err_part-mapped f (Ok x) = refl
-err_part-mapped f (Err e) = refl
+pub err_part_mapped : {X Y : Type 0} (f : X → Y) (r : Result X (ℕ × ℕ)) → result_err (result_map_both f (λ e. e) r) ≡ result_err r
+err_part_mapped f (Ok x) = refl
+err_part_mapped f (Err e) = refl
 
 -- m items are still to come from the bytes left, and e is the refusal, if any
 pub record Refused (width total m : ℕ) (bytes : List ℕ) (e : Option (ℕ × ℕ)) : Type 0 where
   pub is : result_err (read_items width total m bytes) ≡ e
 
 module _ {width total m : ℕ} {bytes : List ℕ} {e : Option (ℕ × ℕ)} (left : Refused width total m bytes e) where
-  pub refused-after : (n : ℕ) (p : ItemValue × List ℕ) → m ≡ suc n → read_item width bytes ≡ Some p → Refused width total n p.1 e
-  refused-after n p more read = record { is = sym (err_part-mapped _ (read_items width total n p.1)) ∙ rw (more, read) at left.is }
+  pub refused_after : (n : ℕ) (p : ItemValue × List ℕ) → m ≡ suc n → read_item width bytes ≡ Some p → Refused width total n p.1 e
+  refused_after n p more read = record { is = sym (err_part_mapped _ (read_items width total n p.1)) ∙ rw (more, read) at left.is }
 
-  pub refused-item : (n : ℕ) → m ≡ suc n → read_item width bytes ≡ None → Some (33, total - length bytes) ≡ e
-  refused-item n more read = rw (more, read) at left.is
+  pub refused_item : (n : ℕ) → m ≡ suc n → read_item width bytes ≡ None → Some (33, total - length bytes) ≡ e
+  refused_item n more read = rw (more, read) at left.is
 
-  pub refused-surplus : m ≡ 0 → 0 < length bytes → Some (33, total - length bytes) ≡ e
-  refused-surplus none some = sym (at-end bytes some) ∙ rw none at left.is
+  pub refused_surplus : m ≡ 0 → 0 < length bytes → Some (33, total - length bytes) ≡ e
+  refused_surplus none some = sym (at_end bytes some) ∙ rw none at left.is
     where
-      at-end : (bytes : List ℕ) → 0 < length bytes → result_err (read_items width total 0 bytes) ≡ Some (33, total - length bytes)
-      at-end [] h = absurd (omega arith)
-      at-end (b ∷ bytes) h = refl
+      at_end : (bytes : List ℕ) → 0 < length bytes → result_err (read_items width total 0 bytes) ≡ Some (33, total - length bytes)
+      at_end [] h = absurd (omega arith)
+      at_end (b ∷ bytes) h = refl
 
   pub refused_none : m ≡ 0 → length bytes ≡ 0 → None ≡ e
   refused_none none empty = rw (none, nil_from_length bytes empty) at left.is

@@ -8,15 +8,15 @@ use Rattle.parcels.specs.Format.{ItemValue}
 use Rattle.parcels.specs.Meaning.{value_of, opened}
 use Rattle.parcels.specs.Reading.{read_item, read_items, item_then, front_then, front_items, header_refusal, read_parcel, chapter_of, count_of, for_chapter}
 use Rattle.parcels.specs.Walk.{numbered, to_come}
-use Rattle.parcels.proofs.Opening.{err_part-mapped, none-some}
+use Rattle.parcels.proofs.Opening.{err_part_mapped, none_some}
 
 -- where no item can be read, none is to come
 pub walk_none : (s : Items) → read_item s.width s.rest.now ≡ None → to_come s ≡ []
-walk_none s read = ap (numbered (s.passed + 1)) (front-none (s.count - s.passed) s.rest.now read)
+walk_none s read = ap (numbered (s.passed + 1)) (front_none (s.count - s.passed) s.rest.now read)
   where
-    front-none : (n : ℕ) (bytes : List ℕ) → read_item s.width bytes ≡ None → front_items s.width n bytes ≡ []
-    front-none zero bytes read = refl
-    front-none (suc n) bytes read = rw read
+    front_none : (n : ℕ) (bytes : List ℕ) → read_item s.width bytes ≡ None → front_items s.width n bytes ≡ []
+    front_none zero bytes read = refl
+    front_none (suc n) bytes read = rw read
 
 -- an item that is read is the first to come
 pub walk_more : (s : Items) (x : Item) (after : Bor (List ℕ)) → s.passed < s.count → read_item s.width s.rest.now ≡ Some (opened (x, after)) → to_come s ≡ (s.passed + 1, value_of x) ∷ to_come (record { rest = after; width = s.width; count = s.count; passed = s.passed + 1 })
@@ -25,18 +25,18 @@ walk_more s x after more read =
     rw (left, read)
 
 -- items that are not refused are those at the front
-front-all : (width total n : ℕ) (bytes : List ℕ) → result_err (read_items width total n bytes) ≡ None → read_items width total n bytes ≡ Ok (front_items width n bytes)
-front-all width total zero [] none = refl
-front-all width total zero (b ∷ bytes) none = absurd (none-some (sym none))
-front-all width total (suc n) bytes none = go (read_item width bytes) (front-all width total n) none
+front_all : (width total n : ℕ) (bytes : List ℕ) → result_err (read_items width total n bytes) ≡ None → read_items width total n bytes ≡ Ok (front_items width n bytes)
+front_all width total zero [] none = refl
+front_all width total zero (b ∷ bytes) none = absurd (none_some (sym none))
+front_all width total (suc n) bytes none = go (read_item width bytes) (front_all width total n) none
   where
     go : (o : Option (ItemValue × List ℕ)) → ((rest : List ℕ) → result_err (read_items width total n rest) ≡ None → read_items width total n rest ≡ Ok (front_items width n rest)) → result_err (item_then o (33, total - length bytes) (read_items width total n)) ≡ None → item_then o (33, total - length bytes) (read_items width total n) ≡ Ok (front_then o (front_items width n))
-    go None others none = absurd (none-some (sym none))
-    go (Some p) others none = ap (result_map_both (λ items. p.0 ∷ items) (λ e. e)) (others p.1 (sym (err_part-mapped _ (read_items width total n p.1)) ∙ none))
+    go None others none = absurd (none_some (sym none))
+    go (Some p) others none = ap (result_map_both (λ items. p.0 ∷ items) (λ e. e)) (others p.1 (sym (err_part_mapped _ (read_items width total n p.1)) ∙ none))
 
-err-from-part : {X : Type 0} (r : Result X (ℕ × ℕ)) (e : ℕ × ℕ) → result_err r ≡ Some e → r ≡ Err e
-err-from-part (Ok x) e is = absurd (none-some is)
-err-from-part (Err d) e is = cc
+err_from_part : {X : Type 0} (r : Result X (ℕ × ℕ)) (e : ℕ × ℕ) → result_err r ≡ Some e → r ≡ Err e
+err_from_part (Ok x) e is = absurd (none_some is)
+err_from_part (Err d) e is = cc
 
 pub header_refused : (kind width : ℕ) (bytes : List ℕ) (e : ℕ × ℕ) → Some e ≡ header_refusal kind bytes → Err e ≡ read_parcel kind width bytes
 header_refused kind width bytes e refused = rw (← refused)
@@ -50,8 +50,8 @@ module _ (kind width : ℕ) (bytes : List ℕ) (count : ℕ) (header : None ≡ 
   read_by : (r : Result (List ItemValue) (ℕ × ℕ)) → read_items width (length bytes) count after ≡ r → read_parcel kind width bytes ≡ result_map_both (for_chapter bytes) (λ e. e) r
   read_by r is = rw (← header, ← counted) (ap (result_map_both (for_chapter bytes) (λ e. e)) (ap (read_items width (length bytes) count) (sym (take_rest bytes 12)) ∙ is))
 
-  pub parcel-refused : (e : ℕ × ℕ) → Some e ≡ result_err (read_items width (length bytes) count after) → Err e ≡ read_parcel kind width bytes
-  parcel-refused e refused = sym (read_by (Err e) (err-from-part _ e (sym refused)))
+  pub parcel_refused : (e : ℕ × ℕ) → Some e ≡ result_err (read_items width (length bytes) count after) → Err e ≡ read_parcel kind width bytes
+  parcel_refused e refused = sym (read_by (Err e) (err_from_part _ e (sym refused)))
 
-  pub parcel-accepted : (chapter : ℕ) → chapter ≡ chapter_of bytes → None ≡ result_err (read_items width (length bytes) count after) → Ok (record { chapter = chapter; items = front_items width count after }) ≡ read_parcel kind width bytes
-  parcel-accepted chapter is none = rw is (sym (read_by (Ok (front_items width count after)) (front-all width (length bytes) count after (sym none))))
+  pub parcel_accepted : (chapter : ℕ) → chapter ≡ chapter_of bytes → None ≡ result_err (read_items width (length bytes) count after) → Ok (record { chapter = chapter; items = front_items width count after }) ≡ read_parcel kind width bytes
+  parcel_accepted chapter is none = rw is (sym (read_by (Ok (front_items width count after)) (front_all width (length bytes) count after (sym none))))

@@ -14,10 +14,10 @@ filled_more n blank ys x less =
     let left : n - length ys ≡ suc (n - length (ys ++ x ∷ [])) = omega (arith, length_push ys x) in
     rw left (set_at ys blank (replicate (n - length (ys ++ x ∷ [])) blank) x (length ys) refl ∙ sym (append_assoc ys (x ∷ []) _))
 
-bits-push : (bs : List Bool) (b : Bool) → bits (bs ++ b ∷ []) ≡ bits bs + cond b (2 ^ length bs) 0
-bits-push [] true = refl
-bits-push [] false = refl
-bits-push (a ∷ bs) b = go b (bits-push bs b)
+bits_push : (bs : List Bool) (b : Bool) → bits (bs ++ b ∷ []) ≡ bits bs + cond b (2 ^ length bs) 0
+bits_push [] true = refl
+bits_push [] false = refl
+bits_push (a ∷ bs) b = go b (bits_push bs b)
   where
     go : (b : Bool) → bits (bs ++ b ∷ []) ≡ bits bs + cond b (2 ^ length bs) 0 → cond a 1 0 + 2 * bits (bs ++ b ∷ []) ≡ cond a 1 0 + 2 * bits bs + cond b (2 ^ suc (length bs)) 0
     go true h = rw pow-suc (omega arith)
@@ -38,8 +38,8 @@ module _ (p q : ℕ → Bool) (front : List ℕ) (x : ℕ) where
   kept_push : (t : Bool) → p x ≡ t → filter p (front ++ x ∷ []) ≡ filter p front ++ cond t (x ∷ []) []
   kept_push t h = filter-append p front (x ∷ []) ∙ rw h refl
 
-  pub filled-skip : (entries : List ℕ) (count mask : ℕ) → p x ≡ false → Filled p q front entries count mask → Filled p q (front ++ x ∷ []) entries count mask
-  filled-skip entries count mask h f =
+  pub filled_skip : (entries : List ℕ) (count mask : ℕ) → p x ≡ false → Filled p q front entries count mask → Filled p q (front ++ x ∷ []) entries count mask
+  filled_skip entries count mask h f =
       let same : filter p (front ++ x ∷ []) ≡ filter p front = kept_push false h ∙ append-nil _ in
       record { holds = rw same f.holds; counted = rw same f.counted; marked = rw same f.marked }
 
@@ -49,7 +49,7 @@ module _ (p q : ℕ → Bool) (front : List ℕ) (x : ℕ) where
       record {
         holds = rw (more, f.holds, f.counted) (filled_more 16 0 (filter p front) x (omega (arith, f.counted)));
         counted = rw (more, length_push (filter p front) x) (ap (λ n. n + 1) f.counted);
-        marked = new ∙ rw (more, map_push q (filter p front) x, bits-push (map q (filter p front)) (q x), length-map (filter p front) q) (go (q x));
+        marked = new ∙ rw (more, map_push q (filter p front) x, bits_push (map q (filter p front)) (q x), length-map (filter p front) q) (go (q x));
       }
     where
       below : mask < 2 ^ count
@@ -61,8 +61,8 @@ module _ (p q : ℕ → Bool) (front : List ℕ) (x : ℕ) where
       go false = omega (arith, f.marked)
 
 -- an entry that is still to come has a place
-pub place-left : (p : ℕ → Bool) (xs : List ℕ) (i : ℕ) → i < length xs → p (get_or xs i 0) ≡ true → length (filter p (take i xs)) < length (filter p xs)
-place-left p xs i within h =
+pub place_left : (p : ℕ → Bool) (xs : List ℕ) (i : ℕ) → i < length xs → p (get_or xs i 0) ≡ true → length (filter p (take i xs)) < length (filter p xs)
+place_left p xs i within h =
     let parts : filter p xs ≡ filter p (take i xs) ++ filter p (drop i xs) = ap (filter p) (sym (take-append-drop i xs)) ∙ filter-append p (take i xs) (drop i xs) in
     let here : filter p (drop i xs) ≡ get_or xs i 0 ∷ filter p (drop (i + 1) xs) = ap (filter p) (drop_more xs i 0 within) ∙ rw h refl in
     rw (parts, here) (omega (arith, length-append (filter p (take i xs)) (get_or xs i 0 ∷ filter p (drop (i + 1) xs))))
@@ -71,19 +71,19 @@ ones-zero : ones 0 ≡ 0
 unfolding ones ones_in
 ones-zero = refl
 
-ones-one : ones 1 ≡ 1
+ones_one : ones 1 ≡ 1
 unfolding ones ones_in
-ones-one = refl
+ones_one = refl
 
 -- the mask has a one for each active separator, if those are in the block
 ones-bits : (bs : List Bool) → ones (bits bs) ≡ length (filter (λ b. b) bs)
 ones-bits [] = ones-zero
-ones-bits (true ∷ bs) = ap ones (omega arith) ∙ ones_cat 1 (bits bs) 1 (omega arith) ∙ omega (arith, ones-bits bs, ones-one)
+ones-bits (true ∷ bs) = ap ones (omega arith) ∙ ones_cat 1 (bits bs) 1 (omega arith) ∙ omega (arith, ones-bits bs, ones_one)
 ones-bits (false ∷ bs) = ap ones (omega arith) ∙ ones_cat 1 (bits bs) 0 (omega arith) ∙ omega (arith, ones-bits bs, ones-zero)
 
-marks-kept : (p q : ℕ → Bool) (xs : List ℕ) → AllByRecursion (λ x. q x ≡ true → p x ≡ true) xs → length (filter (λ b. b) (map q (filter p xs))) ≡ length (filter q xs)
-marks-kept p q [] among = refl
-marks-kept p q (x ∷ xs) among = go (p x) (q x) refl among.0 (marks-kept p q xs among.1)
+marks_kept : (p q : ℕ → Bool) (xs : List ℕ) → AllByRecursion (λ x. q x ≡ true → p x ≡ true) xs → length (filter (λ b. b) (map q (filter p xs))) ≡ length (filter q xs)
+marks_kept p q [] among = refl
+marks_kept p q (x ∷ xs) among = go (p x) (q x) refl among.0 (marks_kept p q xs among.1)
   where
     go : (s t : Bool) → q x ≡ t → (t ≡ true → s ≡ true) → length (filter (λ b. b) (map q (filter p xs))) ≡ length (filter q xs) → length (filter (λ b. b) (map q (cond s (x ∷ filter p xs) (filter p xs)))) ≡ length (cond t (x ∷ filter q xs) (filter q xs))
     go true true e h rest = rw e (ap suc rest)
@@ -91,5 +91,5 @@ marks-kept p q (x ∷ xs) among = go (p x) (q x) refl among.0 (marks-kept p q xs
     go false true e h rest = absurd (both_ways false refl (h refl))
     go false false e h rest = rest
 
-pub ones-marks : (p q : ℕ → Bool) (xs : List ℕ) → AllByRecursion (λ x. q x ≡ true → p x ≡ true) xs → ones (bits (map q (filter p xs))) ≡ length (filter q xs)
-ones-marks p q xs among = ones-bits (map q (filter p xs)) ∙ marks-kept p q xs among
+pub ones_marks : (p q : ℕ → Bool) (xs : List ℕ) → AllByRecursion (λ x. q x ≡ true → p x ≡ true) xs → ones (bits (map q (filter p xs))) ≡ length (filter q xs)
+ones_marks p q xs among = ones-bits (map q (filter p xs)) ∙ marks_kept p q xs among

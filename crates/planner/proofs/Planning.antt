@@ -7,11 +7,11 @@ use Rattle.std.proofs.ByRecursion.{all_kept_by}
 use Rattle.std.proofs.lemmas.List.{length-append, length-map}
 use Rattle.tree.specs.Tree.{Node, fan_out, cut, forest, numbered, block, is_active, among_earliest, sections, nodes}
 use Rattle.tree.specs.Laws.{Distinct}
-use Rattle.tree.proofs.Lists.{kept-by-same, all_join}
-use Rattle.tree.proofs.Cutting.{together, length_cut, cut-lengths}
-use Rattle.tree.proofs.Forest.{forest-same, numbered-same, length-numbered}
-use Rattle.tree.proofs.Nodes.{root_node, fuel-enough, nodes-few}
-use Rattle.tree.proofs.Sections.{active-in-block, length-block, length-sections, each-section}
+use Rattle.tree.proofs.Lists.{kept_by_same, all_join}
+use Rattle.tree.proofs.Cutting.{together, length_cut, cut_lengths}
+use Rattle.tree.proofs.Forest.{forest_same, numbered_same, length-numbered}
+use Rattle.tree.proofs.Nodes.{root_node, fuel_enough, nodes_few}
+use Rattle.tree.proofs.Sections.{active_in_block, length-block, length_sections, each_section}
 use Rattle.planner.specs.declared.bounds.Bounds.{Bounds}
 use Rattle.planner.specs.declared.row.Row.{Row}
 use Rattle.planner.specs.Bounding.{Allowed, in_block, separates}
@@ -19,9 +19,9 @@ use Rattle.planner.specs.Drawing.{rank_before}
 use Rattle.planner.specs.Rows.{filled, bits, no_section, section_row, row_of}
 use Rattle.planner.specs.Steps.{held_by, root_alone, cut_by, left_by}
 use Rattle.planner.specs.Subtrees.{subtree, with_sections}
-use Rattle.planner.proofs.Choosing.{all-unit}
-use Rattle.planner.proofs.Fan.{fan-within}
-use Rattle.planner.proofs.Filling.{ones-marks}
+use Rattle.planner.proofs.Choosing.{all_unit}
+use Rattle.planner.proofs.Fan.{fan_within}
+use Rattle.planner.proofs.Filling.{ones_marks}
 use Rattle.planner.proofs.Order.{strict}
 use Rattle.planner.proofs.Placing.{set-sets, sets-filled}
 
@@ -35,9 +35,9 @@ pub record Divided (ps : List ℕ) (alpha rho : ℕ) (b : Bounds) (xs : List ℕ
   pub falls : 3 * left_by ps b xs + length (cut_by ps b xs) < 3 * length xs
 
 -- tests that agree on the elements cut alike, and give the same flags
-cut-same : (p p' q q' : ℕ → Bool) (xs : List ℕ) → AllByRecursion (λ x. p x ≡ q x) xs → AllByRecursion (λ x. p' x ≡ q' x) xs → cut p p' xs ≡ cut q q' xs
-cut-same p p' q q' [] same same' = refl
-cut-same p p' q q' (x ∷ xs) same same' = rw (same.0, same'.0, cut-same p p' q q' xs same.1 same'.1)
+cut_same : (p p' q q' : ℕ → Bool) (xs : List ℕ) → AllByRecursion (λ x. p x ≡ q x) xs → AllByRecursion (λ x. p' x ≡ q' x) xs → cut p p' xs ≡ cut q q' xs
+cut_same p p' q q' [] same same' = refl
+cut_same p p' q q' (x ∷ xs) same same' = rw (same.0, same'.0, cut_same p p' q q' xs same.1 same'.1)
 
 map_same : {A B : Type 0} (p q : A → B) (xs : List A) → AllByRecursion (λ x. p x ≡ q x) xs → map p xs ≡ map q xs
 map_same p q [] same = refl
@@ -45,67 +45,67 @@ map_same p q (x ∷ xs) same = ap₂ ◌∷◌ same.0 (map_same p q xs same.1)
 
 module _ (ps : List ℕ) (alpha rho : ℕ) (allowed : Allowed alpha rho) where
   -- there are no more blocks than ranks
-  pub subtree-few : (parent k : ℕ) (xs : List ℕ) → Distinct xs → length (subtree ps alpha rho parent k xs) ≤ length xs
-  subtree-few parent k xs apart = nodes-few (strict ps) alpha rho allowed.some (length xs) parent k xs (all-unit xs) apart (le_refl (length xs))
+  pub subtree_few : (parent k : ℕ) (xs : List ℕ) → Distinct xs → length (subtree ps alpha rho parent k xs) ≤ length xs
+  subtree_few parent k xs apart = nodes_few (strict ps) alpha rho allowed.some (length xs) parent k xs (all_unit xs) apart (le_refl (length xs))
 
-  pub forest-few : (parent k : ℕ) (parts : List (List ℕ)) → AllByRecursion Distinct parts → length (forest (subtree ps alpha rho parent) k parts) ≤ length (together parts)
-  forest-few parent k [] apart = omega arith
-  forest-few parent k (s ∷ parts) apart =
+  pub forest_few : (parent k : ℕ) (parts : List (List ℕ)) → AllByRecursion Distinct parts → length (forest (subtree ps alpha rho parent) k parts) ≤ length (together parts)
+  forest_few parent k [] apart = omega arith
+  forest_few parent k (s ∷ parts) apart =
       let first = subtree ps alpha rho parent k s in
-      omega (arith, subtree-few parent k s apart.0, forest-few parent (k + length first) parts apart.1, length-append first (forest (subtree ps alpha rho parent) (k + length first) parts), length-append s (together parts))
+      omega (arith, subtree_few parent k s apart.0, forest_few parent (k + length first) parts apart.1, length-append first (forest (subtree ps alpha rho parent) (k + length first) parts), length-append s (together parts))
 
   -- a subtree is its root, and the subtrees of its sections
-  pub subtree-is : (parent k : ℕ) (xs : List ℕ) → 0 < length xs → Distinct xs → subtree ps alpha rho parent k xs ≡ root_node (rank_before ps) alpha rho (subtree ps alpha rho k) parent k xs ∷ forest (subtree ps alpha rho k) (k + 1) (sections (rank_before ps) alpha rho xs)
-  subtree-is parent k [] some apart = absurd (omega arith)
-  subtree-is parent k (x ∷ xs) some apart =
+  pub subtree_is : (parent k : ℕ) (xs : List ℕ) → 0 < length xs → Distinct xs → subtree ps alpha rho parent k xs ≡ root_node (rank_before ps) alpha rho (subtree ps alpha rho k) parent k xs ∷ forest (subtree ps alpha rho k) (k + 1) (sections (rank_before ps) alpha rho xs)
+  subtree_is parent k [] some apart = absurd (omega arith)
+  subtree_is parent k (x ∷ xs) some apart =
       let each : AllByRecursion (λ s. (j : ℕ) → nodes (rank_before ps) alpha rho (length xs) k j s ≡ subtree ps alpha rho k j s) (sections (rank_before ps) alpha rho (x ∷ xs)) =
-      each-section (strict ps) alpha rho allowed.some _ (x ∷ xs) some (all-unit (x ∷ xs)) apart
-      (λ s w j. fuel-enough (strict ps) alpha rho allowed.some (length xs) (length s) k j s (all-unit s) w.apart (omega (arith, w.shorter)) (le_refl (length s))) in
-      rw (numbered-same (nodes (rank_before ps) alpha rho (length xs) k) (subtree ps alpha rho k) (k + 1) _ each, forest-same (nodes (rank_before ps) alpha rho (length xs) k) (subtree ps alpha rho k) (k + 1) _ each)
+      each_section (strict ps) alpha rho allowed.some _ (x ∷ xs) some (all_unit (x ∷ xs)) apart
+      (λ s w j. fuel_enough (strict ps) alpha rho allowed.some (length xs) (length s) k j s (all_unit s) w.apart (omega (arith, w.shorter)) (le_refl (length s))) in
+      rw (numbered_same (nodes (rank_before ps) alpha rho (length xs) k) (subtree ps alpha rho k) (k + 1) _ each, forest_same (nodes (rank_before ps) alpha rho (length xs) k) (subtree ps alpha rho k) (k + 1) _ each)
 
   module _ (b : Bounds) (xs : List ℕ) (some : 0 < length xs) (apart : Distinct xs)
       (inside : AllByRecursion (λ x. in_block ps b x ≡ among_earliest (rank_before ps) alpha xs x) xs)
       (dividing : AllByRecursion (λ x. separates ps b x ≡ is_active (rank_before ps) alpha rho xs x) xs) where
-    pub held-is : held_by ps b xs ≡ block (rank_before ps) alpha xs
-    held-is = kept-by-same _ _ xs inside
+    pub held_is : held_by ps b xs ≡ block (rank_before ps) alpha xs
+    held_is = kept_by_same _ _ xs inside
 
     pub parts_are : cut_by ps b xs ≡ sections (rank_before ps) alpha rho xs
-    parts_are = cut-same _ _ _ _ xs dividing inside
+    parts_are = cut_same _ _ _ _ xs dividing inside
 
-    marks-are : map (separates ps b) (held_by ps b xs) ≡ map (is_active (rank_before ps) alpha rho xs) (block (rank_before ps) alpha xs)
-    marks-are = map_same _ _ (held_by ps b xs) (all_kept_by (in_block ps b) _ xs dividing) ∙ ap (map (is_active (rank_before ps) alpha rho xs)) held-is
+    marks_are : map (separates ps b) (held_by ps b xs) ≡ map (is_active (rank_before ps) alpha rho xs) (block (rank_before ps) alpha xs)
+    marks_are = map_same _ _ (held_by ps b xs) (all_kept_by (in_block ps b) _ xs dividing) ∙ ap (map (is_active (rank_before ps) alpha rho xs)) held_is
 
-    parts-count : length (cut_by ps b xs) ≡ fan_out alpha rho (length xs)
-    parts-count = ap length parts_are ∙ length-sections (strict ps) alpha rho allowed.shares xs (all-unit xs) apart
+    parts_count : length (cut_by ps b xs) ≡ fan_out alpha rho (length xs)
+    parts_count = ap length parts_are ∙ length_sections (strict ps) alpha rho allowed.shares xs (all_unit xs) apart
 
     pub divided : Divided ps alpha rho b xs
     divided =
         record {
           held = held;
           left = left;
-          parts = parts-count;
-          fan = omega (arith, length_cut (separates ps b) (in_block ps b) xs, ones-marks (in_block ps b) (separates ps b) xs among);
-          falls = omega (arith, held, left, parts-count, fan-within alpha rho (length xs) allowed.shares, allowed.some);
+          parts = parts_count;
+          fan = omega (arith, length_cut (separates ps b) (in_block ps b) xs, ones_marks (in_block ps b) (separates ps b) xs among);
+          falls = omega (arith, held, left, parts_count, fan_within alpha rho (length xs) allowed.shares, allowed.some);
         }
       where
         held : length (held_by ps b xs) ≡ min alpha (length xs)
-        held = ap length held-is ∙ length-block (strict ps) alpha xs (all-unit xs) apart
+        held = ap length held_is ∙ length-block (strict ps) alpha xs (all_unit xs) apart
 
         left : length (held_by ps b xs) + left_by ps b xs ≡ length xs
-        left = rw (held-is, parts_are) (cut-lengths _ _ (active-in-block (rank_before ps) alpha rho xs) xs)
+        left = rw (held_is, parts_are) (cut_lengths _ _ (active_in_block (rank_before ps) alpha rho xs) xs)
 
         among : AllByRecursion (λ x. separates ps b x ≡ true → in_block ps b x ≡ true) xs
-        among = all_join (λ x d i active. i ∙ active-in-block (rank_before ps) alpha rho xs x (sym d ∙ active)) xs dividing inside
+        among = all_join (λ x d i active. i ∙ active_in_block (rank_before ps) alpha rho xs x (sym d ∙ active)) xs dividing inside
 
     module _ (parent k : ℕ) where
       -- the row with its sections noted is the root's
-      pub root-row : with_sections (row_of (root_alone ps b parent xs)) (sets (row_of (root_alone ps b parent xs)).sections 0 (map section_row (numbered (subtree ps alpha rho k) (k + 1) (cut_by ps b xs)))) ≡ row_of (root_node (rank_before ps) alpha rho (subtree ps alpha rho k) parent k xs)
-      root-row =
+      pub root_row : with_sections (row_of (root_alone ps b parent xs)) (sets (row_of (root_alone ps b parent xs)).sections 0 (map section_row (numbered (subtree ps alpha rho k) (k + 1) (cut_by ps b xs)))) ≡ row_of (root_node (rank_before ps) alpha rho (subtree ps alpha rho k) parent k xs)
+      root_row =
           λ i. record {
             parent = parent;
-            count = ap length held-is i;
-            entries = ap (filled 16 0) held-is i;
-            mask = ap bits marks-are i;
+            count = ap length held_is i;
+            entries = ap (filled 16 0) held_is i;
+            mask = ap bits marks_are i;
             weight = length xs;
             sections = noted i;
           }
@@ -114,17 +114,17 @@ module _ (ps : List ℕ) (alpha rho : ℕ) (allowed : Allowed alpha rho) where
           below = subtree ps alpha rho k
 
           fits : length (map section_row (numbered below (k + 1) (cut_by ps b xs))) ≤ 17
-          fits = rw (length-map (numbered below (k + 1) (cut_by ps b xs)) section_row, length-numbered below (k + 1) (cut_by ps b xs), parts-count) (omega (arith, allowed.few))
+          fits = rw (length-map (numbered below (k + 1) (cut_by ps b xs)) section_row, length-numbered below (k + 1) (cut_by ps b xs), parts_count) (omega (arith, allowed.few))
 
           noted : sets (filled 17 no_section []) 0 (map section_row (numbered below (k + 1) (cut_by ps b xs))) ≡ filled 17 no_section (map section_row (numbered below (k + 1) (sections (rank_before ps) alpha rho xs)))
           noted = sets-filled 17 no_section (map section_row (numbered below (k + 1) (cut_by ps b xs))) fits ∙ ap (λ parts. filled 17 no_section (map section_row (numbered below (k + 1) parts))) parts_are
 
       -- the nodes of the sections, with the root before them
-      pub subtree-parts : subtree ps alpha rho parent k xs ≡ root_node (rank_before ps) alpha rho (subtree ps alpha rho k) parent k xs ∷ forest (subtree ps alpha rho k) (k + 1) (cut_by ps b xs)
-      subtree-parts = subtree-is parent k xs some apart ∙ ap (λ parts. root_node (rank_before ps) alpha rho (subtree ps alpha rho k) parent k xs ∷ forest (subtree ps alpha rho k) (k + 1) parts) (sym parts_are)
+      pub subtree_parts : subtree ps alpha rho parent k xs ≡ root_node (rank_before ps) alpha rho (subtree ps alpha rho k) parent k xs ∷ forest (subtree ps alpha rho k) (k + 1) (cut_by ps b xs)
+      subtree_parts = subtree_is parent k xs some apart ∙ ap (λ parts. root_node (rank_before ps) alpha rho (subtree ps alpha rho k) parent k xs ∷ forest (subtree ps alpha rho k) (k + 1) parts) (sym parts_are)
 
       -- the root's row, written after those of its sections, stands before them
-      pub root-placed : (table : List Row) (row : Row) → 1 ≤ k → row ≡ row_of (root_node (rank_before ps) alpha rho (subtree ps alpha rho k) parent k xs) → set (sets table (k + 1 - 1) (map row_of (forest (subtree ps alpha rho k) (k + 1) (cut_by ps b xs)))) (k - 1) row ≡ sets table (k - 1) (map row_of (subtree ps alpha rho parent k xs))
-      root-placed table row first is =
+      pub root_placed : (table : List Row) (row : Row) → 1 ≤ k → row ≡ row_of (root_node (rank_before ps) alpha rho (subtree ps alpha rho k) parent k xs) → set (sets table (k + 1 - 1) (map row_of (forest (subtree ps alpha rho k) (k + 1) (cut_by ps b xs)))) (k - 1) row ≡ sets table (k - 1) (map row_of (subtree ps alpha rho parent k xs))
+      root_placed table row first is =
           let up : k + 1 - 1 ≡ suc (k - 1) = omega arith in
-          rw (subtree-parts, is, up) (set-sets table (suc (k - 1)) (k - 1) (row_of (root_node (rank_before ps) alpha rho (subtree ps alpha rho k) parent k xs)) (map row_of (forest (subtree ps alpha rho k) (k + 1) (cut_by ps b xs))) (omega arith))
+          rw (subtree_parts, is, up) (set-sets table (suc (k - 1)) (k - 1) (row_of (root_node (rank_before ps) alpha rho (subtree ps alpha rho k) parent k xs)) (map row_of (forest (subtree ps alpha rho k) (k + 1) (cut_by ps b xs))) (omega arith))

@@ -13,27 +13,27 @@ use Rattle.std.proofs.lemmas.Bool.{and_parts, leb-true}
 use Rattle.tree.specs.Tree.{is_active, among_earliest, sections}
 use Rattle.tree.proofs.Cutting.{length_cut}
 use Rattle.tree.proofs.Forest.{length-numbered}
-use Rattle.tree.proofs.Nodes.{all-nodes}
-use Rattle.tree.proofs.Sections.{active-in-block}
+use Rattle.tree.proofs.Nodes.{all_nodes}
+use Rattle.tree.proofs.Sections.{active_in_block}
 use Rattle.planner.specs.declared.row.Row.{Row}
 use Rattle.planner.specs.Bounding.{Allowed}
 use Rattle.planner.specs.Drawing.{rank_before}
 use Rattle.planner.specs.Plan.{plannable, rank_tree, overwritten, MaskTellsSections}
 use Rattle.planner.specs.Rows.{row_of}
-use Rattle.planner.proofs.Apart.{distinct-counting}
-use Rattle.planner.proofs.Choosing.{all-unit}
-use Rattle.planner.proofs.Filling.{ones-marks}
+use Rattle.planner.proofs.Apart.{distinct_counting}
+use Rattle.planner.proofs.Choosing.{all_unit}
+use Rattle.planner.proofs.Filling.{ones_marks}
 use Rattle.planner.proofs.Order.{strict}
-use Rattle.planner.proofs.Planning.{subtree-few}
+use Rattle.planner.proofs.Planning.{subtree_few}
 
 pub record Fitting (n alpha rho places rows : ℕ) : Type 0 where
   pub settings : Allowed alpha rho
   pub few : n ≤ 2000
-  pub places-enough : n ≤ places
-  pub rows-enough : n ≤ rows
+  pub places_enough : n ≤ places
+  pub rows_enough : n ≤ rows
 
-pub plannable-fits : (n alpha rho places rows : ℕ) → plannable n alpha rho places rows ≡ true → Fitting n alpha rho places rows
-plannable-fits n alpha rho places rows h =
+pub plannable_fits : (n alpha rho places rows : ℕ) → plannable n alpha rho places rows ≡ true → Fitting n alpha rho places rows
+plannable_fits n alpha rho places rows h =
     let halves = and_parts (leb 1 alpha && (leb alpha 16 && (leb 1 rho && leb rho 2000))) (leb n 2000 && (leb n places && leb n rows)) h in
     let a = and_parts (leb 1 alpha) _ halves.0 in
     let b = and_parts (leb alpha 16) _ a.1 in
@@ -43,42 +43,42 @@ plannable-fits n alpha rho places rows h =
     record {
       settings = record { some = leb-true 1 alpha a.0; few = leb-true alpha 16 b.0; shares = leb-true 1 rho c.0; small = leb-true rho 2000 c.1 };
       few = leb-true n 2000 d.0;
-      places-enough = leb-true n places e.0;
-      rows-enough = leb-true n rows e.1;
+      places_enough = leb-true n places e.0;
+      rows_enough = leb-true n rows e.1;
     }
 
 -- the front of a list, and what lies past it, after a write to the front
-pub front-written : (n : ℕ) (ys zs : List ℕ) → length ys ≡ n → take (n - 0) (ys ++ post_of 0 (n - 0) zs) ≡ ys
-front-written n ys zs long = take_at ys (post_of 0 (n - 0) zs) (n - 0) (long ∙ sym (sub-zero n))
+pub front_written : (n : ℕ) (ys zs : List ℕ) → length ys ≡ n → take (n - 0) (ys ++ post_of 0 (n - 0) zs) ≡ ys
+front_written n ys zs long = take_at ys (post_of 0 (n - 0) zs) (n - 0) (long ∙ sym (sub-zero n))
 
-pub past-written : (n : ℕ) (ys zs : List ℕ) → length ys ≡ n → post_of 0 (n - 0) (ys ++ zs) ≡ zs
-past-written n ys zs long = drop_at ys zs (n - 0) (long ∙ sym (sub-zero n))
+pub past_written : (n : ℕ) (ys zs : List ℕ) → length ys ≡ n → post_of 0 (n - 0) (ys ++ zs) ≡ zs
+past_written n ys zs long = drop_at ys zs (n - 0) (long ∙ sym (sub-zero n))
 
 module _ (ps : List ℕ) (alpha rho : ℕ) (allowed : Allowed alpha rho) where
-  pub rank_tree-few : length (rank_tree ps alpha rho) ≤ length ps
-  rank_tree-few =
-      let few = subtree-few ps alpha rho allowed 0 1 (range_with_len 0 (length ps)) (distinct-counting 0 (length ps)) in
+  pub rank_tree_few : length (rank_tree ps alpha rho) ≤ length ps
+  rank_tree_few =
+      let few = subtree_few ps alpha rho allowed 0 1 (range_with_len 0 (length ps)) (distinct_counting 0 (length ps)) in
       omega (arith, length-range_with_len 0 (length ps))
 
-  pub rows-overwritten : (table : List Row) → length ps ≤ length table → sets table 0 (map row_of (rank_tree ps alpha rho)) ≡ overwritten (map row_of (rank_tree ps alpha rho)) table
-  rows-overwritten table enough =
+  pub rows_overwritten : (table : List Row) → length ps ≤ length table → sets table 0 (map row_of (rank_tree ps alpha rho)) ≡ overwritten (map row_of (rank_tree ps alpha rho)) table
+  rows_overwritten table enough =
       let rows = map row_of (rank_tree ps alpha rho) in
-      sets-eq rows table 0 (omega (arith, rank_tree-few, length-map (rank_tree ps alpha rho) row_of)) ∙ ap (λ n. rows ++ drop n table) (zero-add (length rows))
+      sets-eq rows table 0 (omega (arith, rank_tree_few, length-map (rank_tree ps alpha rho) row_of)) ∙ ap (λ n. rows ++ drop n table) (zero-add (length rows))
 
-  pub mask-tells : MaskTellsSections ps alpha rho
-  mask-tells =
-      all-nodes (strict ps) alpha rho allowed.some (λ node. ones (row_of node).mask + 1 ≡ length node.sections)
+  pub mask_tells : MaskTellsSections ps alpha rho
+  mask_tells =
+      all_nodes (strict ps) alpha rho allowed.some (λ node. ones (row_of node).mask + 1 ≡ length node.sections)
       (λ below parent k xs some all apart. omega (
         arith,
-        ones-marks (among_earliest (rank_before ps) alpha xs) (is_active (rank_before ps) alpha rho xs) xs (All-weaker (λ _. Unit {0}) _ (λ x _. active-in-block (rank_before ps) alpha rho xs x) xs (all-unit xs)),
+        ones_marks (among_earliest (rank_before ps) alpha xs) (is_active (rank_before ps) alpha rho xs) xs (All-weaker (λ _. Unit {0}) _ (λ x _. active_in_block (rank_before ps) alpha rho xs x) xs (all_unit xs)),
         length-numbered below (k + 1) (sections (rank_before ps) alpha rho xs),
         length_cut (is_active (rank_before ps) alpha rho xs) (among_earliest (rank_before ps) alpha xs) xs,
       ))
-      (length (range_with_len 0 (length ps))) 0 1 (range_with_len 0 (length ps)) (all-unit (range_with_len 0 (length ps))) (distinct-counting 0 (length ps))
+      (length (range_with_len 0 (length ps))) 0 1 (range_with_len 0 (length ps)) (all_unit (range_with_len 0 (length ps))) (distinct_counting 0 (length ps))
 
 -- what a list holds after three writes to its front, the last of zeros
-pub front-cleared : (n : ℕ) (zeros ys zs work : List ℕ) → length ys ≡ n → length zs ≡ n → zeros ≡ replicate n 0 → zeros ++ post_of 0 (n - 0) (ys ++ post_of 0 (n - 0) (zs ++ post_of 0 (n - 0) work)) ≡ overwritten (replicate n 0) work
-front-cleared n zeros ys zs work long long' cleared =
-    ap (λ l. zeros ++ l) (past-written n ys (post_of 0 (n - 0) (zs ++ post_of 0 (n - 0) work)) long ∙ past-written n zs (post_of 0 (n - 0) work) long')
+pub front_cleared : (n : ℕ) (zeros ys zs work : List ℕ) → length ys ≡ n → length zs ≡ n → zeros ≡ replicate n 0 → zeros ++ post_of 0 (n - 0) (ys ++ post_of 0 (n - 0) (zs ++ post_of 0 (n - 0) work)) ≡ overwritten (replicate n 0) work
+front_cleared n zeros ys zs work long long' cleared =
+    ap (λ l. zeros ++ l) (past_written n ys (post_of 0 (n - 0) (zs ++ post_of 0 (n - 0) work)) long ∙ past_written n zs (post_of 0 (n - 0) work) long')
     ∙ ap (λ l. l ++ drop (n - 0) work) cleared
     ∙ ap (λ m. replicate n 0 ++ drop m work) (sub-zero n ∙ sym (length-replicate n 0))

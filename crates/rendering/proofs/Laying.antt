@@ -3,7 +3,7 @@ use Rattle.std.proofs.Common.{◌≡◌, ℕ, ◌+◌, ◌-◌, ◌*◌, ◌<◌
 use borrow.Rule.Slice.PartMut.{put_mid, post_of}
 use Rattle.std.proofs.lemmas.List.{append-nil, append_assoc, length-append, length-replicate, take_at, take_all, take_more, drop_at, drop-replicate, replicate-append-replicate}
 use Rattle.std.specs.List.{flat_map}
-use Rattle.tree.proofs.Lists.{joined-append}
+use Rattle.tree.proofs.Lists.{joined_append}
 use Rattle.rendering.specs.Laid.{Laid}
 
 abbrev pub zeros : ℕ → List ℕ
@@ -48,8 +48,8 @@ pub record Writing {X : Type 0} (f : X → List ℕ) (w : ℕ) (xs : List X) (at
   pub ends : end ≡ at + i * w
   pub laid : (front : List ℕ) → Laid front at old → Laid (front ++ flat_map f (take i xs)) end new
 
-pub writing-none : {X : Type 0} (f : X → List ℕ) (w : ℕ) (xs : List X) (at : ℕ) (block : List ℕ) → Writing f w xs at block 0 at block
-writing-none f w xs at block = record { ends = omega arith; laid = λ front l. subst (λ bytes. Laid bytes at block) (sym (append-nil front)) l }
+pub writing_none : {X : Type 0} (f : X → List ℕ) (w : ℕ) (xs : List X) (at : ℕ) (block : List ℕ) → Writing f w xs at block 0 at block
+writing_none f w xs at block = record { ends = omega arith; laid = λ front l. subst (λ bytes. Laid bytes at block) (sym (append-nil front)) l }
 
 module _ {X : Type 0} {f : X → List ℕ} {w : ℕ} {xs : List X} {at i end : ℕ} {old new : List ℕ} (sofar : Writing f w xs at old i end new) where
   pub writing_more : (d : X) (bytes : List ℕ) (end' : ℕ) (newer : List ℕ) → i < length xs → bytes ≡ f (get_or xs i d) → length bytes ≡ w → end' ≡ end + length bytes → ((front : List ℕ) → Laid front end new → Laid (front ++ bytes) end' newer) → Writing f w xs at old (i + 1) end' newer
@@ -59,9 +59,9 @@ module _ {X : Type 0} {f : X → List ℕ} {w : ℕ} {xs : List X} {at i end : �
         laid = λ front l.
             let grown : (front ++ flat_map f (take i xs)) ++ bytes ≡ front ++ flat_map f (take (i + 1) xs) =
             append_assoc front (flat_map f (take i xs)) bytes
-            ∙ ap (λ l. front ++ l) (ap (λ b. flat_map f (take i xs) ++ b) (is ∙ sym (append-nil (f (get_or xs i d)))) ∙ sym (joined-append f (take i xs) (get_or xs i d ∷ [])) ∙ ap (flat_map f) (sym (take_more xs i d inside))) in
+            ∙ ap (λ l. front ++ l) (ap (λ b. flat_map f (take i xs) ++ b) (is ∙ sym (append-nil (f (get_or xs i d)))) ∙ sym (joined_append f (take i xs) (get_or xs i d ∷ [])) ∙ ap (flat_map f) (sym (take_more xs i d inside))) in
             subst (λ b. Laid b end' newer) grown (step _ (sofar.laid front l));
       }
 
-  pub writing-all : length xs ≤ i → (front : List ℕ) → Laid front at old → Laid (front ++ flat_map f xs) end new
-  writing-all past front l = subst (λ ys. Laid (front ++ flat_map f ys) end new) (take_all i xs past) (sofar.laid front l)
+  pub writing_all : length xs ≤ i → (front : List ℕ) → Laid front at old → Laid (front ++ flat_map f xs) end new
+  writing_all past front l = subst (λ ys. Laid (front ++ flat_map f ys) end new) (take_all i xs past) (sofar.laid front l)

@@ -23,16 +23,16 @@ pub record Stands (outer below : List (List ℕ)) (n i : ℕ) : Type 0 where
 -- a call on block n that is handed on as one on block i: the promise of the store below gives the answer, the buffer, and
 -- what is made of its blocks and its rest after a write
 module _ {outer below : List (List ℕ)} {n i : ℕ} (stands : Stands outer below n i) (buffer : List ℕ) (size : length buffer ≡ 256) where
-  pub answer-through : {answer : Result (Unit {0}) (ℕ × ℕ)} → answer ≡ access_answer (length below) i (length buffer) → answer ≡ access_answer (length outer) n (length buffer)
-  answer-through inner = inner ∙ sym (accepts below i buffer size stands.there) ∙ accepts outer n buffer size stands.here
+  pub answer_through : {answer : Result (Unit {0}) (ℕ × ℕ)} → answer ≡ access_answer (length below) i (length buffer) → answer ≡ access_answer (length outer) n (length buffer)
+  answer_through inner = inner ∙ sym (accepts below i buffer size stands.there) ∙ accepts outer n buffer size stands.here
 
   pub read_through : {filled : List ℕ} → filled ≡ read_buffer below i buffer → filled ≡ read_buffer outer n buffer
   read_through inner = inner ∙ sym (reads below i buffer size stands.there) ∙ stands.same ∙ reads outer n buffer size stands.here
 
   module _ {after : List (List ℕ)} (inner : after ≡ write_blocks below i buffer) where
-    pub write-through : (made : List (List ℕ) → List (List ℕ)) → made (slice_set below i buffer) ≡ slice_set outer n buffer → made after ≡ write_blocks outer n buffer
-    write-through made written =
+    pub write_through : (made : List (List ℕ) → List (List ℕ)) → made (slice_set below i buffer) ≡ slice_set outer n buffer → made after ≡ write_blocks outer n buffer
+    write_through made written =
         ap made (inner ∙ sym (writes below i buffer size stands.there)) ∙ written ∙ writes outer n buffer size stands.here
 
-    pub rest-through : {R A : Type 0} {rest rest' : R} → rest' ≡ rest → (made : List (List ℕ) → R → A) → made (slice_set below i buffer) rest ≡ made below rest → made after rest' ≡ made below rest
-    rest-through same made kept = ap₂ made (inner ∙ sym (writes below i buffer size stands.there)) same ∙ kept
+    pub rest_through : {R A : Type 0} {rest rest' : R} → rest' ≡ rest → (made : List (List ℕ) → R → A) → made (slice_set below i buffer) rest ≡ made below rest → made after rest' ≡ made below rest
+    rest_through same made kept = ap₂ made (inner ∙ sym (writes below i buffer size stands.there)) same ∙ kept

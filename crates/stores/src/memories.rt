@@ -2,7 +2,7 @@
 ghost use Rattle.std.specs.Prelude.{◌≡◌, ℕ, List, ◌++◌, length};
 ghost use Rattle.std.specs.List.{flat_map};
 ghost use Rattle.stores.specs.Stores.{memory_blocks, memory_rest, run_blocks, run_count, run_rest};
-ghost use Rattle.stores.specs.Cut.{storable-run};
+ghost use Rattle.stores.specs.Cut.{storable_run};
 
 use crate::faults::StoreFault;
 use crate::store::{BLOCK_SIZE, BlockStore, MOST_BLOCKS, admit};
@@ -37,7 +37,7 @@ impl BlockStore for Memory {
 
     ghost rest = { memory_rest };
 
-    ghost storable = { λ m. storable-run m.bytes.items };
+    ghost storable = { λ m. storable_run m.bytes.items };
 
     fn count(&self) -> usize
         ensures blocks { result ≡ length (memory_blocks self.now) }

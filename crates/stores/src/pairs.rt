@@ -1,7 +1,7 @@
 // A pair: two stores end to end, as one.
 ghost use Rattle.std.specs.Prelude.{◌≡◌, ◌+◌, min, ◌++◌, length, take, drop};
 ghost use Rattle.stores.specs.Stores.{OffPair, off_pair, pair_blocks, pair_rest, united};
-ghost use Rattle.stores.specs.United.{storable-united};
+ghost use Rattle.stores.specs.United.{storable_united};
 
 use crate::faults::StoreFault;
 use crate::store::{BlockStore, MOST_BLOCKS, admit};
@@ -38,7 +38,7 @@ impl<A: BlockStore, B: BlockStore> BlockStore for Pair<A, B> {
 
     ghost rest = { pair_rest A.BlockStore.blocks A.BlockStore.rest B.BlockStore.blocks B.BlockStore.rest };
 
-    ghost storable = { λ p. storable-united (A.BlockStore.blocks p.first) (B.BlockStore.blocks p.second) (A.BlockStore.storable p.first) (B.BlockStore.storable p.second) };
+    ghost storable = { λ p. storable_united (A.BlockStore.blocks p.first) (B.BlockStore.blocks p.second) (A.BlockStore.storable p.first) (B.BlockStore.storable p.second) };
 
     fn count(&self) -> usize
         ensures blocks { result ≡ length (pair_blocks A.BlockStore.blocks B.BlockStore.blocks self.now) }

@@ -1,7 +1,7 @@
 // A shelf: a run of the blocks of another store, as a store of its own.
 ghost use Rattle.std.specs.Prelude.{◌≡◌, ◌-◌, min, ◌++◌, length};
 ghost use Rattle.stores.specs.Stores.{OffShelf, off_shelf, part, shelf_blocks, shelf_rest};
-ghost use Rattle.stores.specs.Placed.{storable-part};
+ghost use Rattle.stores.specs.Placed.{storable_part};
 
 use crate::faults::StoreFault;
 use crate::store::{BlockStore, admit};
@@ -47,7 +47,7 @@ impl<S: BlockStore> BlockStore for Shelf<S> {
 
     ghost rest = { shelf_rest S.BlockStore.blocks S.BlockStore.rest };
 
-    ghost storable = { λ s. storable-part s.start s.limit (S.BlockStore.blocks s.store) (S.BlockStore.storable s.store) };
+    ghost storable = { λ s. storable_part s.start s.limit (S.BlockStore.blocks s.store) (S.BlockStore.storable s.store) };
 
     fn count(&self) -> usize
         ensures blocks { result ≡ length (shelf_blocks S.BlockStore.blocks self.now) }

@@ -7,15 +7,15 @@ use Rattle.std.proofs.lemmas.List.Sums.{sum_by-cons}
 use Rattle.std.proofs.lemmas.Bool.{both_ways}
 use Rattle.tree.specs.Tree.{Node, block, is_active, among_earliest, sections, forest, numbered, nodes}
 use Rattle.tree.proofs.Lists.{all_both}
-use Rattle.tree.proofs.Cutting.{length_cut, all-cut, cut-lengths, part-le-together}
-use Rattle.tree.proofs.Forest.{all-forest, length-numbered, all-numbered}
+use Rattle.tree.proofs.Cutting.{length_cut, all_cut, cut_lengths, part-le-together}
+use Rattle.tree.proofs.Forest.{all_forest, length-numbered, all_numbered}
 use Rattle.tree.proofs.Nodes.{root_node}
-use Rattle.tree.proofs.Sections.{active-in-block}
+use Rattle.tree.proofs.Sections.{active_in_block}
 
 -- among what is kept, the flags of a narrower test are as many as it passes
-flags-kept : {X : Type 0} (narrow wide : X → Bool) → ((x : X) → narrow x ≡ true → wide x ≡ true) → (xs : List X) → count_by (λ b. b) (map narrow (filter wide xs)) ≡ length (filter narrow xs)
-flags-kept narrow wide within [] = refl
-flags-kept narrow wide within (x ∷ xs) = go (narrow x) (wide x) refl (within x) (flags-kept narrow wide within xs)
+flags_kept : {X : Type 0} (narrow wide : X → Bool) → ((x : X) → narrow x ≡ true → wide x ≡ true) → (xs : List X) → count_by (λ b. b) (map narrow (filter wide xs)) ≡ length (filter narrow xs)
+flags_kept narrow wide within [] = refl
+flags_kept narrow wide within (x ∷ xs) = go (narrow x) (wide x) refl (within x) (flags_kept narrow wide within xs)
   where
     counted : (n : Bool) → narrow x ≡ n → count_by (λ b. b) (narrow x ∷ map narrow (filter wide xs)) ≡ cond n (suc (count_by (λ b. b) (map narrow (filter wide xs)))) (count_by (λ b. b) (map narrow (filter wide xs)))
     counted true is = ap (λ b. count_by (λ b. b) (b ∷ map narrow (filter wide xs))) is ∙ sum_by-cons (λ b. cond b 1 0) true (map narrow (filter wide xs)) ∙ omega arith
@@ -38,34 +38,34 @@ pub record Bounded {X : Type 0} (P : X → Type 0) (n : ℕ) (node : Node X) : T
 
 module _ {X : Type 0} (before : X → X → Bool) (alpha rho : ℕ) where
   -- no section has more elements than there are
-  section-le : (xs : List X) → AllByRecursion (λ s. length s ≤ length xs) (sections before alpha rho xs)
-  section-le xs =
-      let lengths = cut-lengths _ _ (active-in-block before alpha rho xs) xs in
+  section_le : (xs : List X) → AllByRecursion (λ s. length s ≤ length xs) (sections before alpha rho xs)
+  section_le xs =
+      let lengths = cut_lengths _ _ (active_in_block before alpha rho xs) xs in
       All-weaker _ _ (λ s h. omega (arith, lengths)) _ (part-le-together (sections before alpha rho xs))
 
   module _ (P : X → Type 0) (n : ℕ) where
     abbrev Small : List X → Type 0
     Small xs = AllByRecursion P xs × (length xs ≤ n)
 
-    small-sections : (xs : List X) → Small xs → AllByRecursion Small (sections before alpha rho xs)
-    small-sections xs h =
-        all_both (AllByRecursion P) (λ s. length s ≤ n) _ (all-cut (is_active before alpha rho xs) (among_earliest before alpha xs) P xs h.0) (All-weaker (λ s. length s ≤ length xs) (λ s. length s ≤ n) (λ s l. omega (arith, h.1)) _ (section-le xs))
+    small_sections : (xs : List X) → Small xs → AllByRecursion Small (sections before alpha rho xs)
+    small_sections xs h =
+        all_both (AllByRecursion P) (λ s. length s ≤ n) _ (all_cut (is_active before alpha rho xs) (among_earliest before alpha xs) P xs h.0) (All-weaker (λ s. length s ≤ length xs) (λ s. length s ≤ n) (λ s l. omega (arith, h.1)) _ (section_le xs))
 
-    root-bounded : (below : ℕ → List X → List (Node X)) (parent k : ℕ) (xs : List X) → Small xs → Bounded P n (root_node before alpha rho below parent k xs)
-    root-bounded below parent k xs h = record {
+    root_bounded : (below : ℕ → List X → List (Node X)) (parent k : ℕ) (xs : List X) → Small xs → Bounded P n (root_node before alpha rho below parent k xs)
+    root_bounded below parent k xs h = record {
       entries = all_kept_by (among_earliest before alpha xs) P xs h.0;
       flags = length-map (block before alpha xs) (is_active before alpha rho xs);
-      fan = omega (arith, length-numbered below (k + 1) (sections before alpha rho xs), length_cut (is_active before alpha rho xs) (among_earliest before alpha xs) xs, flags-kept (is_active before alpha rho xs) (among_earliest before alpha xs) (active-in-block before alpha rho xs) xs);
+      fan = omega (arith, length-numbered below (k + 1) (sections before alpha rho xs), length_cut (is_active before alpha rho xs) (among_earliest before alpha xs) xs, flags_kept (is_active before alpha rho xs) (among_earliest before alpha xs) (active_in_block before alpha rho xs) xs);
       weight = h.1;
-      members = all-numbered below Small (k + 1) (sections before alpha rho xs) (small-sections xs h);
+      members = all_numbered below Small (k + 1) (sections before alpha rho xs) (small_sections xs h);
     }
 
-    pub nodes-bounded : (fuel parent k : ℕ) (xs : List X) → AllByRecursion P xs → length xs ≤ n → AllByRecursion (Bounded P n) (nodes before alpha rho fuel parent k xs)
-    nodes-bounded zero parent k xs all short = tt
-    nodes-bounded (suc fuel) parent k [] all short = tt
-    nodes-bounded (suc fuel) parent k (x ∷ xs) all short = (
-      root-bounded (nodes before alpha rho fuel k) parent k (x ∷ xs) (all, short),
-      all-forest (nodes before alpha rho fuel k) (Bounded P n) (k + 1) _ (All-weaker Small _ (λ s h j. nodes-bounded fuel k j s h.0 h.1) _ (small-sections (x ∷ xs) (all, short))),
+    pub nodes_bounded : (fuel parent k : ℕ) (xs : List X) → AllByRecursion P xs → length xs ≤ n → AllByRecursion (Bounded P n) (nodes before alpha rho fuel parent k xs)
+    nodes_bounded zero parent k xs all short = tt
+    nodes_bounded (suc fuel) parent k [] all short = tt
+    nodes_bounded (suc fuel) parent k (x ∷ xs) all short = (
+      root_bounded (nodes before alpha rho fuel k) parent k (x ∷ xs) (all, short),
+      all_forest (nodes before alpha rho fuel k) (Bounded P n) (k + 1) _ (All-weaker Small _ (λ s h j. nodes_bounded fuel k j s h.0 h.1) _ (small_sections (x ∷ xs) (all, short))),
     )
 
 -- block numbers: no section and no parent has a number past the end of the tree
@@ -74,14 +74,14 @@ pub record Numbered {X : Type 0} (top : ℕ) (node : Node X) : Type 0 where
   pub sections : AllByRecursion (λ s. s.number ≤ top) node.sections
 
 module _ {X : Type 0} (below : ℕ → List X → List (Node X)) (empty : (j : ℕ) → below j [] ≡ []) (top : ℕ) where
-  numbers-le : (k : ℕ) (parts : List (List X)) → k + length (forest below k parts) ≤ top → AllByRecursion (λ s. s.number ≤ top) (numbered below k parts)
-  numbers-le k [] h = tt
-  numbers-le k ([] ∷ parts) h =
+  numbers_le : (k : ℕ) (parts : List (List X)) → k + length (forest below k parts) ≤ top → AllByRecursion (λ s. s.number ≤ top) (numbered below k parts)
+  numbers_le k [] h = tt
+  numbers_le k ([] ∷ parts) h =
       let same : forest below k ([] ∷ parts) ≡ forest below k parts = rw empty (ap (λ j. forest below j parts) (add-zero k)) in
-      (omega arith, numbers-le k parts (omega (arith, h, ap length same)))
-  numbers-le k ((x ∷ s) ∷ parts) h =
+      (omega arith, numbers_le k parts (omega (arith, h, ap length same)))
+  numbers_le k ((x ∷ s) ∷ parts) h =
       let whole = length-append (below k (x ∷ s)) (forest below (k + length (below k (x ∷ s))) parts) in
-      (omega arith, numbers-le (k + length (below k (x ∷ s))) parts (omega (arith, h, whole)))
+      (omega arith, numbers_le (k + length (below k (x ∷ s))) parts (omega (arith, h, whole)))
 
   forest-numbered : ((j : ℕ) (s : List X) → j + length (below j s) ≤ top → AllByRecursion (Numbered top) (below j s)) → (k : ℕ) (parts : List (List X)) → k + length (forest below k parts) ≤ top → AllByRecursion (Numbered top) (forest below k parts)
   forest-numbered each k [] h = tt
@@ -90,9 +90,9 @@ module _ {X : Type 0} (below : ℕ → List X → List (Node X)) (empty : (j : �
       All-append (Numbered top) (below k s) _ (each k s (omega (arith, h, whole))) (forest-numbered each (k + length (below k s)) parts (omega (arith, h, whole)))
 
 module _ {X : Type 0} (before : X → X → Bool) (alpha rho : ℕ) where
-  no-nodes : (fuel parent k : ℕ) → nodes before alpha rho fuel parent k [] ≡ []
-  no-nodes zero parent k = refl
-  no-nodes (suc fuel) parent k = refl
+  no_nodes : (fuel parent k : ℕ) → nodes before alpha rho fuel parent k [] ≡ []
+  no_nodes zero parent k = refl
+  no_nodes (suc fuel) parent k = refl
 
   pub nodes-numbered : (top fuel parent k : ℕ) (xs : List X) → parent ≤ top → k + length (nodes before alpha rho fuel parent k xs) ≤ top → AllByRecursion (Numbered top) (nodes before alpha rho fuel parent k xs)
   nodes-numbered top zero parent k xs low h = tt
@@ -101,6 +101,6 @@ module _ {X : Type 0} (before : X → X → Bool) (alpha rho : ℕ) where
       let below = nodes before alpha rho fuel k in
       let parts = sections before alpha rho (x ∷ xs) in
       let rest : k + 1 + length (forest below (k + 1) parts) ≤ top = omega (arith, h) in (
-        record { parent = low; sections = numbers-le below (no-nodes fuel k) top (k + 1) parts rest },
-        forest-numbered below (no-nodes fuel k) top (λ j s l. nodes-numbered top fuel k j s (omega arith) l) (k + 1) parts rest,
+        record { parent = low; sections = numbers_le below (no_nodes fuel k) top (k + 1) parts rest },
+        forest-numbered below (no_nodes fuel k) top (λ j s l. nodes-numbered top fuel k j s (omega arith) l) (k + 1) parts rest,
       )

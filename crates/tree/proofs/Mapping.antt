@@ -5,8 +5,8 @@ use Rattle.std.proofs.ByRecursion.{All-weaker, all_kept_by}
 use Rattle.std.proofs.lemmas.List.{length-map, map-append}
 use Rattle.tree.specs.Tree.{Section, Node, fan_out, into_first, cut, forest, numbered, drawn_before, among_earliest, block, is_active, sections, nodes}
 use Rattle.tree.specs.Laws.{map_node}
-use Rattle.tree.proofs.Cutting.{cut_step, all-cut}
-use Rattle.tree.proofs.Lists.{kept-by-map, map-tests}
+use Rattle.tree.proofs.Cutting.{cut_step, all_cut}
+use Rattle.tree.proofs.Lists.{kept_by_map, map_tests}
 use Rattle.tree.proofs.Nodes.{root_node}
 
 -- a section with each of its members replaced
@@ -52,23 +52,23 @@ module _ {X Y : Type 0} (f : X → Y) where
       is_active-map xs all ys all' = rw length-map (among_earliest-map (fan_out alpha rho (length xs) - 1) xs all ys all')
 
       pub block-map : (xs : List X) → AllByRecursion P xs → block before_y alpha (map f xs) ≡ map f (block before_x alpha xs)
-      block-map xs all = kept-by-map f (among_earliest before_x alpha xs) (among_earliest before_y alpha (map f xs)) xs (among_earliest-map alpha xs all xs all)
+      block-map xs all = kept_by_map f (among_earliest before_x alpha xs) (among_earliest before_y alpha (map f xs)) xs (among_earliest-map alpha xs all xs all)
 
-      pub sections-map : (xs : List X) → AllByRecursion P xs → sections before_y alpha rho (map f xs) ≡ map (map f) (sections before_x alpha rho xs)
-      sections-map xs all = cut-map (is_active before_x alpha rho xs) (among_earliest before_x alpha xs) (is_active before_y alpha rho (map f xs)) (among_earliest before_y alpha (map f xs)) xs (is_active-map xs all xs all) (among_earliest-map alpha xs all xs all)
+      pub sections_map : (xs : List X) → AllByRecursion P xs → sections before_y alpha rho (map f xs) ≡ map (map f) (sections before_x alpha rho xs)
+      sections_map xs all = cut-map (is_active before_x alpha rho xs) (among_earliest before_x alpha xs) (is_active before_y alpha rho (map f xs)) (among_earliest before_y alpha (map f xs)) xs (is_active-map xs all xs all) (among_earliest-map alpha xs all xs all)
 
       active-map : (xs : List X) → AllByRecursion P xs → map (is_active before_y alpha rho (map f xs)) (block before_y alpha (map f xs)) ≡ map (is_active before_x alpha rho xs) (block before_x alpha xs)
       active-map xs all =
           ap (map (is_active before_y alpha rho (map f xs))) (block-map xs all)
-          ∙ map-tests f (is_active before_x alpha rho xs) (is_active before_y alpha rho (map f xs)) (block before_x alpha xs) (is_active-map xs all (block before_x alpha xs) (all_kept_by (among_earliest before_x alpha xs) P xs all))
+          ∙ map_tests f (is_active before_x alpha rho xs) (is_active before_y alpha rho (map f xs)) (block before_x alpha xs) (is_active-map xs all (block before_x alpha xs) (all_kept_by (among_earliest before_x alpha xs) P xs all))
 
       -- if mapping the elements maps the nodes of each section, it maps the node above them
       module _ (below : ℕ → List X → List (Node X)) (below' : ℕ → List Y → List (Node Y)) (k : ℕ) (xs : List X) (all : AllByRecursion P xs) (each : AllByRecursion (λ s. (j : ℕ) → below' j (map f s) ≡ map (map_node f) (below j s)) (sections before_x alpha rho xs)) where
-        numbered-sections-map : numbered below' (k + 1) (sections before_y alpha rho (map f xs)) ≡ map (map_section f) (numbered below (k + 1) (sections before_x alpha rho xs))
-        numbered-sections-map = ap (numbered below' (k + 1)) (sections-map xs all) ∙ numbered-map below below' (k + 1) (sections before_x alpha rho xs) each
+        numbered_sections_map : numbered below' (k + 1) (sections before_y alpha rho (map f xs)) ≡ map (map_section f) (numbered below (k + 1) (sections before_x alpha rho xs))
+        numbered_sections_map = ap (numbered below' (k + 1)) (sections_map xs all) ∙ numbered-map below below' (k + 1) (sections before_x alpha rho xs) each
 
-        forest-sections-map : forest below' (k + 1) (sections before_y alpha rho (map f xs)) ≡ map (map_node f) (forest below (k + 1) (sections before_x alpha rho xs))
-        forest-sections-map = ap (forest below' (k + 1)) (sections-map xs all) ∙ forest-map below below' (k + 1) (sections before_x alpha rho xs) each
+        forest_sections_map : forest below' (k + 1) (sections before_y alpha rho (map f xs)) ≡ map (map_node f) (forest below (k + 1) (sections before_x alpha rho xs))
+        forest_sections_map = ap (forest below' (k + 1)) (sections_map xs all) ∙ forest-map below below' (k + 1) (sections before_x alpha rho xs) each
 
         root_node-map : (parent : ℕ) → root_node before_y alpha rho below' parent k (map f xs) ≡ map_node f (root_node before_x alpha rho below parent k xs)
         root_node-map parent =
@@ -77,7 +77,7 @@ module _ {X Y : Type 0} (f : X → Y) where
               entries = block-map xs all i;
               active = active-map xs all i;
               weight = length-map xs f i;
-              sections = numbered-sections-map i;
+              sections = numbered_sections_map i;
             }
 
       -- mapping the elements maps each node
@@ -88,5 +88,5 @@ module _ {X Y : Type 0} (f : X → Y) where
           let below = nodes before_x alpha rho fuel k in
           let below' = nodes before_y alpha rho fuel k in
           let each : AllByRecursion (λ s. (j : ℕ) → below' j (map f s) ≡ map (map_node f) (below j s)) (sections before_x alpha rho (x ∷ xs)) =
-          All-weaker (AllByRecursion P) _ (λ s h j. nodes-map fuel k j s h) _ (all-cut (is_active before_x alpha rho (x ∷ xs)) (among_earliest before_x alpha (x ∷ xs)) P (x ∷ xs) all) in
-          ap₂ ◌∷◌ (root_node-map below below' k (x ∷ xs) all each parent) (forest-sections-map below below' k (x ∷ xs) all each)
+          All-weaker (AllByRecursion P) _ (λ s h j. nodes-map fuel k j s h) _ (all_cut (is_active before_x alpha rho (x ∷ xs)) (among_earliest before_x alpha (x ∷ xs)) P (x ∷ xs) all) in
+          ap₂ ◌∷◌ (root_node-map below below' k (x ∷ xs) all each parent) (forest_sections_map below below' k (x ∷ xs) all each)

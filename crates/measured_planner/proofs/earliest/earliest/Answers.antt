@@ -2,8 +2,8 @@ use Rattle.std.proofs.Common.{◌≡◌, ℕ, ◌+◌, ◌<◌, min, List, [], �
 use Rattle.std.proofs.lemmas.List.{take_more, take_all, length-take, get_or-set_same, get_or-set_other}
 use Rattle.measured_planner.specs.Drawing.{rank_before}
 use Rattle.measured_planner.specs.Steps.{Earliest}
-use Rattle.measured_planner.proofs.Apart.{distinct-front}
-use Rattle.measured_planner.proofs.Choosing.{earliest-more}
+use Rattle.measured_planner.proofs.Apart.{distinct_front}
+use Rattle.measured_planner.proofs.Choosing.{earliest_more}
 use Rattle.measured_planner.proofs.Order.{strict}
 use Rattle.measured_planner.proofs.earliest.earliest.Goals as goal
 use Rattle.measured_planner.proofs.earliest.earliest.Goals.{then-at-limit, else-at-limit}
@@ -19,8 +19,8 @@ more c chosen own others =
     let long : length (take i xs) ≡ i = omega (arith, length-take i xs) in
     rw (take_more xs i 0 within)
     (subst (λ n. Earliest (rank_before c.args.priorities.now) (take i xs ++ get_or xs i 0 ∷ []) (min c.args.limit (n + 1)) chosen) long
-    (earliest-more (strict c.args.priorities.now) (take i xs) (get_or xs i 0) c.loop-rank.count c.args.limit c.make_place-at.result c.loop-rank.chosen c.make_place-at.new.chosen
-    (c.loop-rank.invariant.1 ∙ ap (min c.args.limit) (sym long)) (distinct-front xs i c.requires.distinct within) c.loop-rank.invariant.0 c.make_place-at.ensures.made c.make_place-at.ensures.stops
+    (earliest_more (strict c.args.priorities.now) (take i xs) (get_or xs i 0) c.loop-rank.count c.args.limit c.make_place-at.result c.loop-rank.chosen c.make_place-at.new.chosen
+    (c.loop-rank.invariant.1 ∙ ap (min c.args.limit) (sym long)) (distinct_front xs i c.requires.distinct within) c.loop-rank.invariant.0 c.make_place-at.ensures.made c.make_place-at.ensures.stops
     chosen own others))
 
 pub loop-rank-preserved : goal.loop-rank-preserved

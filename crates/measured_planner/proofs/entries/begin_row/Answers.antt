@@ -3,13 +3,13 @@ use lib.Bits.{bit_or}
 use Rattle.std.proofs.lemmas.Nat.{one_shl}
 use Rattle.std.proofs.lemmas.List.{take_more, take_all}
 use Rattle.measured_planner.specs.Bounding.{in_block, separates}
-use Rattle.measured_planner.proofs.Filling.{Filled, filled-skip, filled-take, place-left}
+use Rattle.measured_planner.proofs.Filling.{Filled, filled_skip, filled-take, place_left}
 use Rattle.measured_planner.proofs.entries.begin_row.Goals as goal
 use Rattle.measured_planner.proofs.entries.begin_row.Goals.{then-holds, then-separates, else-separates, else-holds}
 
 -- there is a place for an entry that the block holds
 room : (p : ℕ → Bool) (xs : List ℕ) (i count : ℕ) → i < length xs → true ≡ p (get_or xs i 0) → count ≡ length (filter p (take i xs)) → length (filter p xs) ≤ 16 → count < 16
-room p xs i count within holds counted few = omega (arith, place-left p xs i within (sym holds))
+room p xs i count within holds counted few = omega (arith, place_left p xs i within (sym holds))
 
 pub offset_bounds-entries-count : goal.offset_bounds-entries-count
 offset_bounds-entries-count c = omega (arith, room _ _ _ _ c.loop-rank-test.true c.if-holds.ensures c.loop-rank.invariant.counted c.requires.fits)
@@ -43,7 +43,7 @@ loop-rank-preserved c =
             | else-separates v ↦ rw (← v.if-separates.ensures) v.mask-is
           ] in
           rw (w.entries-is, w.count-is, w.mask-is) (filled-take p q (take i xs) (get_or xs i 0) _ _ _ _ (sym w.if-holds.ensures) less marked c.loop-rank.invariant)
-      | else-holds w ↦ rw (w.entries-is, w.count-is, w.mask-is) (filled-skip p q (take i xs) (get_or xs i 0) _ _ _ (sym w.if-holds.ensures) c.loop-rank.invariant)
+      | else-holds w ↦ rw (w.entries-is, w.count-is, w.mask-is) (filled_skip p q (take i xs) (get_or xs i 0) _ _ _ (sym w.if-holds.ensures) c.loop-rank.invariant)
     ]
     )
 

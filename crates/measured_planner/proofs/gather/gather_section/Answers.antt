@@ -1,11 +1,11 @@
 use Rattle.std.proofs.Common.{◌<◌, ◌≤◌, length, get_or, sym, refl, ◌∙◌, inl, inr, arith}
 use Rattle.std.proofs.lemmas.List.{drop_all}
-use Rattle.measured_planner.proofs.Gathering.{gathering-none, rest-next, gathered-to, gathering-skip, gathering-more, gathered-all, summed-more}
+use Rattle.measured_planner.proofs.Gathering.{gathering_none, rest_next, gathered_to, gathering_skip, gathering_more, gathered_all, summed_more}
 use Rattle.measured_planner.proofs.gather.gather_section.Goals as goal
 use Rattle.measured_planner.proofs.gather.gather_section.Goals.{then-not-holds, else-not-holds}
 
 pub loop-i-init : goal.loop-i-init
-loop-i-init c = (gathering-none _ _ c.args.ranks.now, record { is = refl; small = omega arith })
+loop-i-init c = (gathering_none _ _ c.args.ranks.now, record { is = refl; small = omega arith })
 
 pub returns-then-separates : goal.returns-then-separates
 returns-then-separates c =
@@ -13,8 +13,8 @@ returns-then-separates c =
     record {
       first =
           record {
-            sections = inr (gathered-to _ _ _ _ _ _ (get_or c.loop-i.ranks c.loop-i.i 0) 0 c.loop-i.invariant.0 inside refl (sym c.if-separates.ensures));
-            rest = rest-next _ _ _ _ _ _ (get_or c.loop-i.ranks c.loop-i.i 0) 0 c.loop-i.invariant.0 inside refl;
+            sections = inr (gathered_to _ _ _ _ _ _ (get_or c.loop-i.ranks c.loop-i.i 0) 0 c.loop-i.invariant.0 inside refl (sym c.if-separates.ensures));
+            rest = rest_next _ _ _ _ _ _ (get_or c.loop-i.ranks c.loop-i.i 0) 0 c.loop-i.invariant.0 inside refl;
             behind = omega arith;
             within = omega arith;
           };
@@ -31,12 +31,12 @@ loop-i-preserved c =
     elim c.if-not-holds.branch [
       | then-not-holds w ↦
           rw (w.ranks-is, w.length-is, w.measure-is) (
-            gathering-more _ _ _ _ _ _ x 0 c.loop-i.invariant.0 inside refl (sym c.if-separates.ensures) (sym w.if-not-holds.ensures),
-            summed-more c.args.measures.now c.loop-i.ranks c.loop-i.length c.loop-i.measure x w.from-measure.result (omega arith) (w.from-measure.ensures ∙ w.at_rank.ensures) (omega arith) c.loop-i.invariant.1,
+            gathering_more _ _ _ _ _ _ x 0 c.loop-i.invariant.0 inside refl (sym c.if-separates.ensures) (sym w.if-not-holds.ensures),
+            summed_more c.args.measures.now c.loop-i.ranks c.loop-i.length c.loop-i.measure x w.from-measure.result (omega arith) (w.from-measure.ensures ∙ w.at_rank.ensures) (omega arith) c.loop-i.invariant.1,
           )
       | else-not-holds w ↦
           rw (w.ranks-is, w.length-is, w.measure-is) (
-            gathering-skip _ _ _ _ _ _ x 0 c.loop-i.invariant.0 inside refl (sym c.if-separates.ensures) (sym w.if-not-holds.ensures),
+            gathering_skip _ _ _ _ _ _ x 0 c.loop-i.invariant.0 inside refl (sym c.if-separates.ensures) (sym w.if-not-holds.ensures),
             c.loop-i.invariant.1,
           )
     ]
@@ -47,7 +47,7 @@ returns c =
     record {
       first =
           record {
-            sections = inl (gathered-all _ _ _ _ _ _ c.loop-i.invariant.0 past, c.loop-i.invariant.0.long);
+            sections = inl (gathered_all _ _ _ _ _ _ c.loop-i.invariant.0 past, c.loop-i.invariant.0.long);
             rest = drop_all _ c.loop-i.ranks (omega arith) ∙ sym (drop_all _ c.args.ranks.now (omega arith));
             behind = omega arith;
             within = omega arith;

@@ -5,16 +5,16 @@ use lib.Seq.{sets}
 use Rattle.std.proofs.lemmas.List.{length-drop}
 use Rattle.tree.specs.Laws.{Distinct}
 use Rattle.tree.specs.Tree.{numbered}
-use Rattle.tree.proofs.Cutting.{pairwise-cut}
+use Rattle.tree.proofs.Cutting.{pairwise_cut}
 use Rattle.tree.proofs.Nodes.{root_node}
 use Rattle.measured_planner.specs.Bounding.{in_block, separates}
 use Rattle.measured_planner.specs.Drawing.{rank_before}
 use Rattle.measured_planner.specs.Rows.{measure_of, row_of, section_row}
 use Rattle.measured_planner.specs.Steps.{cut_by, left_by}
 use Rattle.measured_planner.specs.Subtrees.{subtree, with_sections}
-use Rattle.measured_planner.proofs.Apart.{distinct-drop}
-use Rattle.measured_planner.proofs.Planning.{forest-few, divided, root-row, subtree-parts, subtree-visited, root-placed, subtree-few, subtree-visits, forest-visits}
-use Rattle.measured_planner.proofs.Sectioning.{some-part, left-first, apart-first, first_part, last-part, more_parts, length-first, rest_of, rest-kept, rows_on, noted-on, count-on, visits-on, last_end}
+use Rattle.measured_planner.proofs.Apart.{distinct_drop}
+use Rattle.measured_planner.proofs.Planning.{forest_few, divided, root_row, subtree_parts, subtree_visited, root_placed, subtree_few, subtree-visits, forest-visits}
+use Rattle.measured_planner.proofs.Sectioning.{some_part, left_first, apart_first, first_part, last_part, more_parts, length_first, rest_of, rest_kept, rows_on, noted_on, count_on, visits_on, last_end}
 use Rattle.measured_planner.proofs.plan.+plan_block_plan_sections.Goals as goal
 
 -- the section's measure, of the part lent to planning it
@@ -53,8 +53,8 @@ plan_block-overflow_add-result t c =
     let rho = c.args.settings.rho in
     let xs = c.args.ranks.now in
     let some : 0 < length xs = omega arith in
-    let few = subtree-few ps alpha rho c.requires.settings c.args.parent c.args.number xs c.requires.apart in
-    let whole = ap length (subtree-parts ps alpha rho c.requires.settings c.of-bounds.result xs some c.requires.apart c.of-bounds.ensures.block c.of-bounds.ensures.active c.args.parent c.args.number) in
+    let few = subtree_few ps alpha rho c.requires.settings c.args.parent c.args.number xs c.requires.apart in
+    let whole = ap length (subtree_parts ps alpha rho c.requires.settings c.of-bounds.result xs some c.requires.apart c.of-bounds.ensures.block c.of-bounds.ensures.active c.args.parent c.args.number) in
     let beneath = c.plan_sections-beneath.ensures.count in
     omega arith
 
@@ -65,9 +65,9 @@ plan_block-overflow_add-result-2 t c =
     let rho = c.args.settings.rho in
     let xs = c.args.ranks.now in
     let some : 0 < length xs = omega arith in
-    let few = subtree-few ps alpha rho c.requires.settings c.args.parent c.args.number xs c.requires.apart in
+    let few = subtree_few ps alpha rho c.requires.settings c.args.parent c.args.number xs c.requires.apart in
     let bound = subtree-visits ps alpha rho c.requires.settings c.args.parent c.args.number xs (omega arith) in
-    let whole = subtree-visited ps alpha rho c.requires.settings c.of-bounds.result xs some c.requires.apart c.of-bounds.ensures.block c.of-bounds.ensures.active c.args.parent c.args.number in
+    let whole = subtree_visited ps alpha rho c.requires.settings c.of-bounds.result xs some c.requires.apart c.of-bounds.ensures.block c.of-bounds.ensures.active c.args.parent c.args.number in
     let beneath = c.plan_sections-beneath.ensures.visits in
     omega arith
 
@@ -85,15 +85,15 @@ plan_block-returns t c =
     let noted : last.row ≡ row_of c.args.measures.now (root_node (rank_before ps) alpha rho (subtree ps alpha rho k) parent k xs) =
     c.plan_sections-beneath.ensures.noted
     ∙ ap (λ row. with_sections row (sets row.sections 0 (map (section_row c.args.measures.now) (numbered (subtree ps alpha rho k) (k + 1) (cut_by ps b xs))))) c.begin_row-row.ensures
-    ∙ root-row ps alpha rho c.requires.settings b xs some c.requires.apart c.of-bounds.ensures.block c.of-bounds.ensures.active parent k c.args.measures.now in
-    let whole = ap length (subtree-parts ps alpha rho c.requires.settings b xs some c.requires.apart c.of-bounds.ensures.block c.of-bounds.ensures.active parent k) in
+    ∙ root_row ps alpha rho c.requires.settings b xs some c.requires.apart c.of-bounds.ensures.block c.of-bounds.ensures.active parent k c.args.measures.now in
+    let whole = ap length (subtree_parts ps alpha rho c.requires.settings b xs some c.requires.apart c.of-bounds.ensures.block c.of-bounds.ensures.active parent k) in
     let beneath = c.plan_sections-beneath.ensures.count in
     record {
       rows =
           ap (λ table. set table (k - 1) last.row) c.plan_sections-beneath.ensures.rows
-          ∙ root-placed ps alpha rho c.requires.settings b xs some c.requires.apart c.of-bounds.ensures.block c.of-bounds.ensures.active parent k c.args.measures.now c.args.table.now last.row c.requires.first noted;
+          ∙ root_placed ps alpha rho c.requires.settings b xs some c.requires.apart c.of-bounds.ensures.block c.of-bounds.ensures.active parent k c.args.measures.now c.args.table.now last.row c.requires.first noted;
       count = omega arith;
-      visits = omega (arith, c.plan_sections-beneath.ensures.visits, c.plan_sections-beneath.auto.ranks, subtree-visited ps alpha rho c.requires.settings b xs some c.requires.apart c.of-bounds.ensures.block c.of-bounds.ensures.active parent k);
+      visits = omega (arith, c.plan_sections-beneath.ensures.visits, c.plan_sections-beneath.auto.ranks, subtree_visited ps alpha rho c.requires.settings b xs some c.requires.apart c.of-bounds.ensures.block c.of-bounds.ensures.active parent k);
     }
 
 pub plan_sections-plan_block-first-requires : goal.plan_sections-plan_block-first-requires
@@ -103,25 +103,25 @@ plan_sections-plan_block-first-requires t c =
     let xs = c.args.ranks.now in
     let gathered = c.gather_section-gathered in
     let part = first_part ps b xs gathered.new.ranks gathered.result.length gathered.result.end gathered.ensures.first in
-    let long = length-first ps b xs gathered.new.ranks gathered.result.length gathered.result.end gathered.ensures.first gathered.auto.ranks in
-    let left = left-first ps b xs _ part.0 part.1 in
-    let more = some-part ps b xs in
+    let long = length_first ps b xs gathered.new.ranks gathered.result.length gathered.result.end gathered.ensures.first gathered.auto.ranks in
+    let left = left_first ps b xs _ part.0 part.1 in
+    let more = some_part ps b xs in
     let falls : 3 * length (take (gathered.result.length - 0) gathered.new.ranks) < t = omega arith in
-    (falls, (c.requires.settings, (apart-first ps b xs _ part.0 part.1 c.requires.apart, (c.requires.first, (omega arith, omega arith)))))
+    (falls, (c.requires.settings, (apart_first ps b xs _ part.0 part.1 c.requires.apart, (c.requires.first, (omega arith, omega arith)))))
 
 pub plan_sections-section-requires : goal.plan_sections-section-requires
 plan_sections-section-requires t c =
     let gathered = c.gather_section-gathered in
     let part = first_part c.args.priorities.now c.args.place.bounds c.args.ranks.now gathered.new.ranks gathered.result.length gathered.result.end gathered.ensures.first in
-    let long = length-first c.args.priorities.now c.args.place.bounds c.args.ranks.now gathered.new.ranks gathered.result.length gathered.result.end gathered.ensures.first gathered.auto.ranks in
-    let left = left-first c.args.priorities.now c.args.place.bounds c.args.ranks.now _ part.0 part.1 in
+    let long = length_first c.args.priorities.now c.args.place.bounds c.args.ranks.now gathered.new.ranks gathered.result.length gathered.result.end gathered.ensures.first gathered.auto.ranks in
+    let left = left_first c.args.priorities.now c.args.place.bounds c.args.ranks.now _ part.0 part.1 in
     omega arith
 
 pub plan_sections-offset_bounds-row-place : goal.plan_sections-offset_bounds-row-place
-plan_sections-offset_bounds-row-place t c = omega (arith, some-part c.args.priorities.now c.args.place.bounds c.args.ranks.now)
+plan_sections-offset_bounds-row-place t c = omega (arith, some_part c.args.priorities.now c.args.place.bounds c.args.ranks.now)
 
 pub plan_sections-bounds-row-place : goal.plan_sections-bounds-row-place
-plan_sections-bounds-row-place t c = omega (arith, some-part c.args.priorities.now c.args.place.bounds c.args.ranks.now)
+plan_sections-bounds-row-place t c = omega (arith, some_part c.args.priorities.now c.args.place.bounds c.args.ranks.now)
 
 pub plan_sections-returns-then-place-separators : goal.plan_sections-returns-then-place-separators
 plan_sections-returns-then-place-separators t c =
@@ -133,13 +133,13 @@ plan_sections-returns-then-place-separators t c =
     let gathered = c.gather_section-gathered in
     let blocks = c.plan_block-first.result.blocks in
     let s = take (gathered.result.length - 0) gathered.new.ranks in
-    let split = last-part ps b xs gathered.new.ranks gathered.result.length gathered.result.end gathered.ensures.first (omega arith) in
-    let long = length-first ps b xs gathered.new.ranks gathered.result.length gathered.result.end gathered.ensures.first gathered.auto.ranks in
+    let split = last_part ps b xs gathered.new.ranks gathered.result.length gathered.result.end gathered.ensures.first (omega arith) in
+    let long = length_first ps b xs gathered.new.ranks gathered.result.length gathered.result.end gathered.ensures.first gathered.auto.ranks in
     record {
       rows = rows_on below (λ j. refl) k s [] blocks c.plan_block-first.ensures.count (cut_by ps b xs) split c.args.measures.now c.args.table.now c.plan_block-first.new.table c.plan_block-first.new.table c.requires.first c.plan_block-first.ensures.rows refl;
-      noted = ap (with_sections c.args.row.now) (noted-on below (λ j. refl) k s [] blocks c.plan_block-first.ensures.count (cut_by ps b xs) split c.args.measures.now c.args.row.now.sections c.args.place.section c.section.result gathered.result.length gathered.result.measure c.section.ensures (sym long) (sum_first c.args.measures.now gathered.new.ranks gathered.result.length gathered.result.measure gathered.ensures.measure));
-      count = omega (arith, count-on below (λ j. refl) k s [] blocks c.plan_block-first.ensures.count (cut_by ps b xs) split);
-      visits = omega (arith, c.plan_block-first.ensures.visits, visits-on below (λ j. refl) k s [] blocks c.plan_block-first.ensures.count (cut_by ps b xs) split, last_end ps b xs gathered.new.ranks gathered.result.length gathered.result.end gathered.ensures.first (omega arith));
+      noted = ap (with_sections c.args.row.now) (noted_on below (λ j. refl) k s [] blocks c.plan_block-first.ensures.count (cut_by ps b xs) split c.args.measures.now c.args.row.now.sections c.args.place.section c.section.result gathered.result.length gathered.result.measure c.section.ensures (sym long) (sum_first c.args.measures.now gathered.new.ranks gathered.result.length gathered.result.measure gathered.ensures.measure));
+      count = omega (arith, count_on below (λ j. refl) k s [] blocks c.plan_block-first.ensures.count (cut_by ps b xs) split);
+      visits = omega (arith, c.plan_block-first.ensures.visits, visits_on below (λ j. refl) k s [] blocks c.plan_block-first.ensures.count (cut_by ps b xs) split, last_end ps b xs gathered.new.ranks gathered.result.length gathered.result.end gathered.ensures.first (omega arith));
     }
 
 pub plan_sections-overflow_add-visits : goal.plan_sections-overflow_add-visits
@@ -150,10 +150,10 @@ plan_sections-overflow_add-visits t c =
     let gathered = c.gather_section-gathered in
     let s = take (gathered.result.length - 0) gathered.new.ranks in
     let part = first_part ps b xs gathered.new.ranks gathered.result.length gathered.result.end gathered.ensures.first in
-    let long = length-first ps b xs gathered.new.ranks gathered.result.length gathered.result.end gathered.ensures.first gathered.auto.ranks in
+    let long = length_first ps b xs gathered.new.ranks gathered.result.length gathered.result.end gathered.ensures.first gathered.auto.ranks in
     let within = gathered.ensures.first.within in
     let behind = gathered.ensures.first.behind in
-    let few = subtree-few ps c.args.settings.alpha c.args.settings.rho c.requires.settings c.args.place.block c.args.place.next s (apart-first ps b xs s part.0 part.1 c.requires.apart) in
+    let few = subtree_few ps c.args.settings.alpha c.args.settings.rho c.requires.settings c.args.place.block c.args.place.next s (apart_first ps b xs s part.0 part.1 c.requires.apart) in
     let bound = subtree-visits ps c.args.settings.alpha c.args.settings.rho c.requires.settings c.args.place.block c.args.place.next s (omega arith) in
     let first = c.plan_block-first.ensures.visits in
     omega arith
@@ -166,9 +166,9 @@ plan_sections-overflow_add-further-2 t c =
     let gathered = c.gather_section-gathered in
     let s = take (gathered.result.length - 0) gathered.new.ranks in
     let part = first_part ps b xs gathered.new.ranks gathered.result.length gathered.result.end gathered.ensures.first in
-    let left = left-first ps b xs s part.0 part.1 in
+    let left = left_first ps b xs s part.0 part.1 in
     let count = c.plan_block-first.ensures.count in
-    let few = subtree-few ps c.args.settings.alpha c.args.settings.rho c.requires.settings c.args.place.block c.args.place.next s (apart-first ps b xs s part.0 part.1 c.requires.apart) in
+    let few = subtree_few ps c.args.settings.alpha c.args.settings.rho c.requires.settings c.args.place.block c.args.place.next s (apart_first ps b xs s part.0 part.1 c.requires.apart) in
     omega arith
 
 pub plan_sections-plan_sections-others-requires : goal.plan_sections-plan_sections-others-requires
@@ -180,13 +180,13 @@ plan_sections-plan_sections-others-requires t c =
     let s = take (gathered.result.length - 0) gathered.new.ranks in
     let rest = rest_of gathered.new.ranks c.plan_block-first.new.ranks gathered.result.length gathered.result.end in
     let split = more_parts ps b xs gathered.new.ranks gathered.result.length gathered.result.end gathered.ensures.first gathered.auto.ranks c.plan_block-first.new.ranks c.plan_block-first.auto.ranks (λ one. omega arith) in
-    let left : left_by ps b xs ≡ length s + left_by ps b rest = left-first ps b xs s (cut_by ps b rest) split in
-    let kept = rest-kept ps b xs gathered.new.ranks gathered.result.length gathered.result.end gathered.ensures.first gathered.auto.ranks c.plan_block-first.new.ranks c.plan_block-first.auto.ranks in
+    let left : left_by ps b xs ≡ length s + left_by ps b rest = left_first ps b xs s (cut_by ps b rest) split in
+    let kept = rest_kept ps b xs gathered.new.ranks gathered.result.length gathered.result.end gathered.ensures.first gathered.auto.ranks c.plan_block-first.new.ranks c.plan_block-first.auto.ranks in
     let parts : length (cut_by ps b xs) ≡ 1 + length (cut_by ps b rest) = ap length split ∙ omega arith in
     let count = c.plan_block-first.ensures.count in
-    let few = subtree-few ps c.args.settings.alpha c.args.settings.rho c.requires.settings c.args.place.block c.args.place.next s (apart-first ps b xs s (cut_by ps b rest) split c.requires.apart) in
+    let few = subtree_few ps c.args.settings.alpha c.args.settings.rho c.requires.settings c.args.place.block c.args.place.next s (apart_first ps b xs s (cut_by ps b rest) split c.requires.apart) in
     let falls : 3 * left_by ps b rest + length (cut_by ps b rest) < t = omega arith in
-    (falls, (c.requires.settings, (subst Distinct (sym kept) (distinct-drop gathered.result.end xs c.requires.apart), (omega (arith, ap length kept, length-drop gathered.result.end xs), (omega arith, (omega arith, (omega arith, (omega arith, c.requires.places))))))))
+    (falls, (c.requires.settings, (subst Distinct (sym kept) (distinct_drop gathered.result.end xs c.requires.apart), (omega (arith, ap length kept, length-drop gathered.result.end xs), (omega arith, (omega arith, (omega arith, (omega arith, c.requires.places))))))))
 
 pub plan_sections-overflow_add-result : goal.plan_sections-overflow_add-result
 plan_sections-overflow_add-result t c =
@@ -200,8 +200,8 @@ plan_sections-overflow_add-result t c =
     let s = take (gathered.result.length - 0) gathered.new.ranks in
     let rest = rest_of gathered.new.ranks c.plan_block-first.new.ranks gathered.result.length gathered.result.end in
     let split = more_parts ps b xs gathered.new.ranks gathered.result.length gathered.result.end gathered.ensures.first gathered.auto.ranks c.plan_block-first.new.ranks c.plan_block-first.auto.ranks (λ one. omega arith) in
-    let whole = count-on below (λ j. refl) k s (cut_by ps b rest) blocks c.plan_block-first.ensures.count (cut_by ps b xs) split in
-    let few = forest-few ps c.args.settings.alpha c.args.settings.rho c.requires.settings c.args.place.block k (cut_by ps b xs) (pairwise-cut (separates ps b) (in_block ps b) _ xs c.requires.apart) in
+    let whole = count_on below (λ j. refl) k s (cut_by ps b rest) blocks c.plan_block-first.ensures.count (cut_by ps b xs) split in
+    let few = forest_few ps c.args.settings.alpha c.args.settings.rho c.requires.settings c.args.place.block k (cut_by ps b xs) (pairwise_cut (separates ps b) (in_block ps b) _ xs c.requires.apart) in
     let count = c.plan_sections-others.ensures.count in
     omega arith
 
@@ -217,11 +217,11 @@ plan_sections-overflow_add-result-2 t c =
     let s = take (gathered.result.length - 0) gathered.new.ranks in
     let rest = rest_of gathered.new.ranks c.plan_block-first.new.ranks gathered.result.length gathered.result.end in
     let split = more_parts ps b xs gathered.new.ranks gathered.result.length gathered.result.end gathered.ensures.first gathered.auto.ranks c.plan_block-first.new.ranks c.plan_block-first.auto.ranks (λ one. omega arith) in
-    let kept = ap length (rest-kept ps b xs gathered.new.ranks gathered.result.length gathered.result.end gathered.ensures.first gathered.auto.ranks c.plan_block-first.new.ranks c.plan_block-first.auto.ranks) in
+    let kept = ap length (rest_kept ps b xs gathered.new.ranks gathered.result.length gathered.result.end gathered.ensures.first gathered.auto.ranks c.plan_block-first.new.ranks c.plan_block-first.auto.ranks) in
     let left = length-drop gathered.result.end xs in
     let within = gathered.ensures.first.within in
-    let whole = visits-on (subtree ps alpha rho c.args.place.block) (λ j. refl) k s (cut_by ps b rest) c.plan_block-first.result.blocks c.plan_block-first.ensures.count (cut_by ps b xs) split in
-    let few = forest-few ps alpha rho c.requires.settings c.args.place.block k (cut_by ps b xs) (pairwise-cut (separates ps b) (in_block ps b) _ xs c.requires.apart) in
+    let whole = visits_on (subtree ps alpha rho c.args.place.block) (λ j. refl) k s (cut_by ps b rest) c.plan_block-first.result.blocks c.plan_block-first.ensures.count (cut_by ps b xs) split in
+    let few = forest_few ps alpha rho c.requires.settings c.args.place.block k (cut_by ps b xs) (pairwise_cut (separates ps b) (in_block ps b) _ xs c.requires.apart) in
     let bound = forest-visits ps alpha rho c.requires.settings c.args.place.block k (cut_by ps b xs) (omega arith) in
     let first = c.plan_block-first.ensures.visits in
     let others = c.plan_sections-others.ensures.visits in
@@ -239,13 +239,13 @@ plan_sections-returns t c =
     let s = take (gathered.result.length - 0) gathered.new.ranks in
     let rest = rest_of gathered.new.ranks c.plan_block-first.new.ranks gathered.result.length gathered.result.end in
     let split = more_parts ps b xs gathered.new.ranks gathered.result.length gathered.result.end gathered.ensures.first gathered.auto.ranks c.plan_block-first.new.ranks c.plan_block-first.auto.ranks (λ one. omega arith) in
-    let long = length-first ps b xs gathered.new.ranks gathered.result.length gathered.result.end gathered.ensures.first gathered.auto.ranks in
-    let kept = rest-kept ps b xs gathered.new.ranks gathered.result.length gathered.result.end gathered.ensures.first gathered.auto.ranks c.plan_block-first.new.ranks c.plan_block-first.auto.ranks in
+    let long = length_first ps b xs gathered.new.ranks gathered.result.length gathered.result.end gathered.ensures.first gathered.auto.ranks in
+    let kept = rest_kept ps b xs gathered.new.ranks gathered.result.length gathered.result.end gathered.ensures.first gathered.auto.ranks c.plan_block-first.new.ranks c.plan_block-first.auto.ranks in
     record {
       rows = rows_on below (λ j. refl) k s (cut_by ps b rest) blocks c.plan_block-first.ensures.count (cut_by ps b xs) split c.args.measures.now c.args.table.now c.plan_block-first.new.table c.plan_sections-others.new.table c.requires.first c.plan_block-first.ensures.rows c.plan_sections-others.ensures.rows;
       noted =
           c.plan_sections-others.ensures.noted
-          ∙ ap (with_sections c.args.row.now) (noted-on below (λ j. refl) k s (cut_by ps b rest) blocks c.plan_block-first.ensures.count (cut_by ps b xs) split c.args.measures.now c.args.row.now.sections c.args.place.section c.section.result gathered.result.length gathered.result.measure c.section.ensures (sym long) (sum_first c.args.measures.now gathered.new.ranks gathered.result.length gathered.result.measure gathered.ensures.measure));
-      count = omega (arith, count-on below (λ j. refl) k s (cut_by ps b rest) blocks c.plan_block-first.ensures.count (cut_by ps b xs) split, c.plan_sections-others.ensures.count);
-      visits = omega (arith, c.plan_block-first.ensures.visits, c.plan_sections-others.ensures.visits, visits-on below (λ j. refl) k s (cut_by ps b rest) blocks c.plan_block-first.ensures.count (cut_by ps b xs) split, ap length kept, length-drop gathered.result.end xs, gathered.ensures.first.within);
+          ∙ ap (with_sections c.args.row.now) (noted_on below (λ j. refl) k s (cut_by ps b rest) blocks c.plan_block-first.ensures.count (cut_by ps b xs) split c.args.measures.now c.args.row.now.sections c.args.place.section c.section.result gathered.result.length gathered.result.measure c.section.ensures (sym long) (sum_first c.args.measures.now gathered.new.ranks gathered.result.length gathered.result.measure gathered.ensures.measure));
+      count = omega (arith, count_on below (λ j. refl) k s (cut_by ps b rest) blocks c.plan_block-first.ensures.count (cut_by ps b xs) split, c.plan_sections-others.ensures.count);
+      visits = omega (arith, c.plan_block-first.ensures.visits, c.plan_sections-others.ensures.visits, visits_on below (λ j. refl) k s (cut_by ps b rest) blocks c.plan_block-first.ensures.count (cut_by ps b xs) split, ap length kept, length-drop gathered.result.end xs, gathered.ensures.first.within);
     }

@@ -1,18 +1,18 @@
 use Rattle.std.proofs.Common.{◌<◌, ◌≤◌, length, get_or, sym, refl, ◌∙◌, inl, inr, arith}
 use Rattle.std.proofs.lemmas.List.{drop_all}
-use Rattle.planner.proofs.Gathering.{gathering-none, rest-next, gathered-to, gathering-skip, gathering-more, gathered-all}
+use Rattle.planner.proofs.Gathering.{gathering_none, rest_next, gathered_to, gathering_skip, gathering_more, gathered_all}
 use Rattle.planner.proofs.gather.gather_section.Goals as goal
 use Rattle.planner.proofs.gather.gather_section.Goals.{then-not-holds, else-not-holds}
 
 pub loop-i-init : goal.loop-i-init
-loop-i-init c = gathering-none _ _ c.args.ranks.now
+loop-i-init c = gathering_none _ _ c.args.ranks.now
 
 pub returns-then-separates : goal.returns-then-separates
 returns-then-separates c =
     let inside : c.loop-i.i < length c.loop-i.ranks = omega arith in
     record {
-      sections = inr (gathered-to _ _ _ _ _ _ (get_or c.loop-i.ranks c.loop-i.i 0) 0 c.loop-i.invariant inside refl (sym c.if-separates.ensures));
-      rest = rest-next _ _ _ _ _ _ (get_or c.loop-i.ranks c.loop-i.i 0) 0 c.loop-i.invariant inside refl;
+      sections = inr (gathered_to _ _ _ _ _ _ (get_or c.loop-i.ranks c.loop-i.i 0) 0 c.loop-i.invariant inside refl (sym c.if-separates.ensures));
+      rest = rest_next _ _ _ _ _ _ (get_or c.loop-i.ranks c.loop-i.i 0) 0 c.loop-i.invariant inside refl;
       behind = omega arith;
       within = omega arith;
     }
@@ -23,16 +23,16 @@ loop-i-preserved c =
     let x = get_or c.loop-i.ranks c.loop-i.i 0 in
     elim c.if-not-holds.branch [
       | then-not-holds w ↦
-          rw (w.ranks-is, w.length-is) (gathering-more _ _ _ _ _ _ x 0 c.loop-i.invariant inside refl (sym c.if-separates.ensures) (sym w.if-not-holds.ensures))
+          rw (w.ranks-is, w.length-is) (gathering_more _ _ _ _ _ _ x 0 c.loop-i.invariant inside refl (sym c.if-separates.ensures) (sym w.if-not-holds.ensures))
       | else-not-holds w ↦
-          rw (w.ranks-is, w.length-is) (gathering-skip _ _ _ _ _ _ x 0 c.loop-i.invariant inside refl (sym c.if-separates.ensures) (sym w.if-not-holds.ensures))
+          rw (w.ranks-is, w.length-is) (gathering_skip _ _ _ _ _ _ x 0 c.loop-i.invariant inside refl (sym c.if-separates.ensures) (sym w.if-not-holds.ensures))
     ]
 
 pub returns : goal.returns
 returns c =
     let past : length c.args.ranks.now ≤ c.loop-i.i = omega arith in
     record {
-      sections = inl (gathered-all _ _ _ _ _ _ c.loop-i.invariant past);
+      sections = inl (gathered_all _ _ _ _ _ _ c.loop-i.invariant past);
       rest = drop_all _ c.loop-i.ranks (omega arith) ∙ sym (drop_all _ c.args.ranks.now (omega arith));
       behind = omega arith;
       within = omega arith;

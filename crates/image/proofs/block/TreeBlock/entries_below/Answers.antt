@@ -1,5 +1,5 @@
 use Rattle.std.proofs.Common.{refl, ◌∙◌, arith}
-use Rattle.image.proofs.Summing.{summing-more, summing-all}
+use Rattle.image.proofs.Summing.{summing_more, summing_all}
 use Rattle.image.proofs.block.TreeBlock.entries_below.Goals as goal
 
 pub loop-i-init : goal.loop-i-init
@@ -10,11 +10,11 @@ overflow_add-sum g c = omega (arith, c.loop-i.invariant.few, c.entries-i-end.ens
 
 pub loop-i-preserved : goal.loop-i-preserved
 loop-i-preserved g c =
-    summing-more c.loop-i.invariant c.from-sum.result (omega (arith, c.entries-i-end.ensures.count)) (c.from-sum.ensures ∙ c.measure_if_below.ensures) (λ rest. refl) (omega arith)
+    summing_more c.loop-i.invariant c.from-sum.result (omega (arith, c.entries-i-end.ensures.count)) (c.from-sum.ensures ∙ c.measure_if_below.ensures) (λ rest. refl) (omega arith)
 
 pub returns : goal.returns
 returns g c =
     record {
-      value = summing-all c.loop-i.invariant (omega (arith, c.entries-i-end.ensures.count)) refl;
+      value = summing_all c.loop-i.invariant (omega (arith, c.entries-i-end.ensures.count)) refl;
       few = omega (arith, c.loop-i.invariant.few, c.entries-i-end.ensures.few);
     }

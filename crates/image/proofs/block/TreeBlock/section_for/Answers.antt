@@ -1,5 +1,5 @@
 use Rattle.std.proofs.Common.{cond, refl, ap, ◌∙◌, arith}
-use Rattle.image.proofs.Summing.{flag_is, summing-more, summing-all}
+use Rattle.image.proofs.Summing.{flag_is, summing_more, summing_all}
 use Rattle.image.proofs.block.TreeBlock.section_for.Goals as goal
 
 pub loop-i-init : goal.loop-i-init
@@ -11,9 +11,9 @@ overflow_add-below g c = omega (arith, c.from-below.ensures, (flag_is c.separate
 pub loop-i-preserved : goal.loop-i-preserved
 loop-i-preserved g c =
     let flag = flag_is c.separates.result in
-    summing-more c.loop-i.invariant c.from-below.result (omega (arith, c.entries-i-end.ensures.count))
+    summing_more c.loop-i.invariant c.from-below.result (omega (arith, c.entries-i-end.ensures.count))
     (c.from-below.ensures ∙ flag.0 ∙ ap (λ b. cond b 1 0) c.separates.ensures) (λ rest. refl)
     (omega (arith, c.from-below.ensures, flag.1))
 
 pub returns : goal.returns
-returns g c = summing-all c.loop-i.invariant (omega (arith, c.entries-i-end.ensures.count)) refl
+returns g c = summing_all c.loop-i.invariant (omega (arith, c.entries-i-end.ensures.count)) refl

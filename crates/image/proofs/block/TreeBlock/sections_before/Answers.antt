@@ -4,7 +4,7 @@ use Rattle.std.proofs.lemmas.List.Sums.{sum_by-cons}
 use Rattle.fields.proofs.Parts.{take-cut}
 use Rattle.image.specs.Reading.{section_at, section_count, sections_of}
 use Rattle.image.specs.View.{alpha_of, bytes_of}
-use Rattle.image.proofs.Summing.{summing-more, summing-all}
+use Rattle.image.proofs.Summing.{summing_more, summing_all}
 use Rattle.image.proofs.block.TreeBlock.sections_before.Goals as goal
 
 pub loop-i-init : goal.loop-i-init
@@ -24,11 +24,11 @@ overflow_add-sum g c = omega (arith, c.loop-i.invariant.few, c.section_count.ens
 
 pub loop-i-preserved : goal.loop-i-preserved
 loop-i-preserved g c =
-    summing-more c.loop-i.invariant c.from-sum.result (omega (arith, c.section_count.ensures.count)) (c.from-sum.ensures ∙ ap (λ s. s.measure) c.section.ensures) (sum_by-cons (λ s. s.measure) (section_at g.K.EntryKind.kind (alpha_of c.args.self.now) (bytes_of c.args.self.now) c.loop-i.i)) (omega arith)
+    summing_more c.loop-i.invariant c.from-sum.result (omega (arith, c.section_count.ensures.count)) (c.from-sum.ensures ∙ ap (λ s. s.measure) c.section.ensures) (sum_by-cons (λ s. s.measure) (section_at g.K.EntryKind.kind (alpha_of c.args.self.now) (bytes_of c.args.self.now) c.loop-i.i)) (omega arith)
 
 pub returns : goal.returns
 returns g c =
     record {
-      value = summing-all c.loop-i.invariant (omega (arith, c.section_count.ensures.count)) refl;
+      value = summing_all c.loop-i.invariant (omega (arith, c.section_count.ensures.count)) refl;
       few = omega (arith, c.loop-i.invariant.few, c.section_count.ensures.few);
     }

@@ -1,8 +1,8 @@
 use Rattle.std.proofs.Common.{◌≡◌, ◌-◌, true, ltb, length, get_or, ap, ◌∙◌, arith}
 use Rattle.std.proofs.lemmas.Bool.{ltb-true}
 use Rattle.tree.specs.Tree.{fan_out}
-use Rattle.measured_planner.proofs.Choosing.{block-told, active-told}
-use Rattle.measured_planner.proofs.Fan.{fan-within}
+use Rattle.measured_planner.proofs.Choosing.{block_told, active_told}
+use Rattle.measured_planner.proofs.Fan.{fan_within}
 use Rattle.measured_planner.proofs.Order.{strict}
 use Rattle.measured_planner.proofs.bounds.Bounds.of.Goals as goal
 use Rattle.measured_planner.proofs.bounds.Bounds.of.Goals.{then-divides, else-divides}
@@ -21,6 +21,6 @@ returns c =
       | else-divides w ↦ absurd (omega (arith, ltb-true 0 (c.fan_out-separators.result - 1) divides, w.if-divides.false))
     ] in
     record {
-      block = block-told (strict ps) xs alpha chosen c.earliest-chosen.ensures c.min.result c.min.ensures (omega arith);
-      active = active-told (strict ps) xs alpha chosen c.earliest-chosen.ensures separators c.if-divides.separator (ltb 0 (c.fan_out-separators.result - 1)) (ap (ltb 0) fan) (fan-within alpha c.args.rho (length xs) c.requires.settings.shares) last;
+      block = block_told (strict ps) xs alpha chosen c.earliest-chosen.ensures c.min.result c.min.ensures (omega arith);
+      active = active_told (strict ps) xs alpha chosen c.earliest-chosen.ensures separators c.if-divides.separator (ltb 0 (c.fan_out-separators.result - 1)) (ap (ltb 0) fan) (fan_within alpha c.args.rho (length xs) c.requires.settings.shares) last;
     }

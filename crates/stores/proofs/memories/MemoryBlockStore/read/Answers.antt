@@ -1,7 +1,7 @@
 use Rattle.std.proofs.Common.{◌≡◌, ◌*◌, ◌<◌, length, take, drop, vec_items, sym, refl, ◌∙◌, arith, rules}
 use Rattle.stores.specs.Access.{accepts, reads}
 use Rattle.stores.specs.Stores.{run_blocks, run_count}
-use Rattle.stores.specs.Cut.{get_or-cut}
+use Rattle.stores.specs.Cut.{get_or_cut}
 use Rattle.stores.proofs.memories.MemoryBlockStore.read.Goals as goal
 
 pub returns : goal.returns
@@ -12,7 +12,7 @@ returns c =
     let copied : c.copy_from_slice.new.self ≡ take 256 (drop (c.args.block * 256) bytes) = search rules in
     record {
       answer = accepts (run_blocks bytes) c.args.block c.args.buffer.now admitted.0 within;
-      buffer = copied ∙ sym (get_or-cut (run_count bytes) c.args.block bytes (omega arith)) ∙ reads (run_blocks bytes) c.args.block c.args.buffer.now admitted.0 within;
+      buffer = copied ∙ sym (get_or_cut (run_count bytes) c.args.block bytes (omega arith)) ∙ reads (run_blocks bytes) c.args.block c.args.buffer.now admitted.0 within;
       blocks = refl;
       rest = refl;
     }

@@ -4,7 +4,7 @@ use Rattle.std.specs.Vec.{with_items}
 use Rattle.std.proofs.lemmas.List.{with_items_is}
 use Rattle.stores.specs.Access.{accepts, writes}
 use Rattle.stores.specs.Stores.{run_blocks, run_rest}
-use Rattle.stores.specs.Cut.{over, length_over, run-over, rest_over}
+use Rattle.stores.specs.Cut.{over, length_over, run_over, rest_over}
 use Rattle.stores.proofs.memories.MemoryBlockStore.write.Goals as goal
 
 pub returns : goal.returns
@@ -21,6 +21,6 @@ returns c =
     ap (λ xs. vec_items (with_items vec xs)) written ∙ with_items_is vec (over n bytes block) (whole ∙ sym vec.ok.0) in
     record {
       answer = accepts (run_blocks bytes) n block admitted.0 within;
-      blocks = ap run_blocks after ∙ run-over bytes block n (omega arith) admitted.0 ∙ writes (run_blocks bytes) n block admitted.0 within;
+      blocks = ap run_blocks after ∙ run_over bytes block n (omega arith) admitted.0 ∙ writes (run_blocks bytes) n block admitted.0 within;
       rest = ap run_rest after ∙ rest_over bytes block n (omega arith) admitted.0;
     }

@@ -1,5 +1,5 @@
 use Rattle.std.proofs.Common.{sym, refl}
-use Rattle.stores.specs.United.{front-united, back-united}
+use Rattle.stores.specs.United.{front_united, back_united}
 use Rattle.stores.proofs.pairs.Pair.into_stores.Goals as goal
 
 pub returns : goal.returns
@@ -10,6 +10,6 @@ returns g c =
     let few = (g.met.A.BlockStore.storable p.first).few in
     record {
       owned = (refl, refl);
-      first = sym (front-united first second few);
-      second = sym (back-united first second few);
+      first = sym (front_united first second few);
+      second = sym (back_united first second few);
     }

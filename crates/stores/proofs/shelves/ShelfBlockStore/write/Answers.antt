@@ -1,7 +1,7 @@
 use Rattle.std.proofs.Common.{◌<◌, length, arith}
 use Rattle.stores.specs.Stores.{off_shelf, part}
-use Rattle.stores.specs.Access.{answer-through, rest-through, write-through}
-use Rattle.stores.specs.Placed.{off-shelf-set, part-stands, set-part}
+use Rattle.stores.specs.Access.{answer_through, rest_through, write_through}
+use Rattle.stores.specs.Placed.{off_shelf_set, part_stands, set_part}
 use Rattle.stores.proofs.shelves.ShelfBlockStore.write.Goals as goal
 
 pub returns : goal.returns
@@ -11,10 +11,10 @@ returns g c =
     let buffer = c.args.buffer.now in
     let admitted = c.in_ok-admit.ensures.admitted in
     let within : c.args.block < length (part s.start s.limit below) = omega (arith, c.count.ensures.blocks) in
-    let stands = part-stands s.start s.limit below c.args.block within in
+    let stands = part_stands s.start s.limit below c.args.block within in
     let inner = c.write.ensures in
     record {
-      answer = answer-through stands buffer admitted.0 inner.answer;
-      blocks = write-through stands buffer admitted.0 inner.blocks (part s.start s.limit) (set-part s.start s.limit below c.args.block within buffer);
-      rest = rest-through stands buffer admitted.0 inner.blocks inner.rest (off_shelf s.start s.limit) (off-shelf-set s.start s.limit below c.args.block within (g.S.BlockStore.rest s.store) buffer);
+      answer = answer_through stands buffer admitted.0 inner.answer;
+      blocks = write_through stands buffer admitted.0 inner.blocks (part s.start s.limit) (set_part s.start s.limit below c.args.block within buffer);
+      rest = rest_through stands buffer admitted.0 inner.blocks inner.rest (off_shelf s.start s.limit) (off_shelf_set s.start s.limit below c.args.block within (g.S.BlockStore.rest s.store) buffer);
     }
