@@ -1,5 +1,5 @@
 -- How the answers of calls are put together. Assumes nothing.
-use Rattle.std.specs.Prelude.{ℕ, Bool, cond, List, length, Some, None, Ok, Err, Option, Result, nat_lt, slice_index_or}
+use Rattle.std.specs.Prelude.{ℕ, Bool, cond, List, length, replicate, Some, None, Ok, Err, Option, Result, nat_lt, slice_index_or}
 use Rattle.kinds.specs.Kind.{Kind}
 use Rattle.image.specs.declared.head.Head.{Head}
 use Rattle.image.specs.Reading.{read_head}
@@ -33,3 +33,7 @@ head_of kind blocks = and_then (block_at blocks 0) (λ bytes. head_or (read_head
 abbrev pub if_accepted : {X : Type 0} → Answer X → (X → List (List ℕ)) → List (List ℕ) → List (List ℕ)
 if_accepted (Ok x) after before = after x
 if_accepted (Err e) after before = before
+
+-- the work table after a call that takes one, accepted or refused: all zero
+abbrev pub work_after : (work : ℕ) → List ℕ
+work_after work = replicate work 0

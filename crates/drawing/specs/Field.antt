@@ -2,7 +2,7 @@
 use Rattle.std.specs.Prelude.{◌≡◌, ℕ, zero, suc, ◌+◌, ◌*◌, ◌/◌, ◌%◌, ◌^◌, ◌<◌, cond, ◌⊎◌, ◌==◌, bit_xor, nat_lt}
 
 -- A byte is a polynomial of degree below 8 over the field of two elements: bit i is the coefficient of x^i. The sum of
--- two is bitXor.
+-- two is bit_xor.
 
 -- times x, reduced by x^8 + x^4 + x^3 + x + 1, whose bits are 11Bh
 abbrev pub times_x : ℕ → ℕ

@@ -56,6 +56,18 @@ fn accepted(rt: HostRuntime) -> Result<(), Fail> {
 }
 
 #[test]
+fn as_many_items_as_counted(rt: HostRuntime) -> Result<(), Fail> {
+    let bytes = b"PCL\x01\0\x01\x02\x01\0\x80\x04\0\x01abcd\x02\0\x02\x03xyz\x01efgh";
+    let mut seen = 0u32;
+    for (number, _) in Parcel::read(bytes, 1, 4)?.items() {
+        seen = seen.wrapping_add(1);
+        assert_eq!(rt; u32::from(number), seen);
+    }
+    assert_eq!(rt; seen, 4);
+    Ok(())
+}
+
+#[test]
 fn widths(rt: HostRuntime) {
     assert!(rt; Parcel::read(b"PCL\x01\0\xff\0\0\0\0\0\0", 255, 128).is_ok());
     assert!(rt; Parcel::read(b"PCL\x01\0\x02\0\0\0\0\x01\0\x01a", 2, 1).is_ok());

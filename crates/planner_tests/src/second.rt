@@ -25,7 +25,7 @@ pub(crate) fn draw(heap: Global, priorities: &[u16]) -> Result<Vec<usize>, Alloc
             rank,
         })?;
     }
-    all.sort()?;
+    all.sort_unstable();
     let mut ranks = Vec::new(heap);
     for drawn in all.iter() {
         ranks.push(drawn.rank)?;
@@ -87,7 +87,7 @@ fn block(
             entries.push((*rank, active))?;
         }
     }
-    entries.sort()?;
+    entries.sort_unstable();
     Ok(entries)
 }
 
