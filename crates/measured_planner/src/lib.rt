@@ -1,4 +1,5 @@
-// The planner: from the drawing priorities of some entries in key order, the blocks of their tree.
+// The planner with measures: from the drawing priorities and the measures of some entries in key order, the blocks of their tree, the
+// measure of each section, and a count of visits.
 #![tactic(auto)]
 
 ghost use Rattle.std.specs.Prelude.{◌≡◌, true, length};

@@ -77,7 +77,7 @@ pub(crate) fn plan_block(
 }
 
 // Plans the sections of a block from the one on at which planning stands, and notes them in the block's row. The answer is how
-// many blocks they have, and how often their ranks were looked at, here and beneath.
+// many blocks they have, and the visits to their ranks that were counted, here and beneath.
 #[cycle(plan_block_plan_sections)]
 fn plan_sections(
     priorities: &[u16],

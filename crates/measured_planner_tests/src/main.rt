@@ -1,5 +1,5 @@
-// Tries the planner. For each line of the input (α, ρ and priorities in key order) it prints the blocks of the plan; then how many
-// lists it planned as a second planner does, and how often a rank is visited in planning the longest lists.
+// Tries the planner with measures. For each line of the input (α, ρ and priorities in key order) it prints the blocks of the plan; then how many
+// lists it planned as a second planner does, and the visits that planning counts for the longest lists.
 #![tactic(auto)]
 
 mod lists;
@@ -42,7 +42,7 @@ fn show_plan(
     Ok(())
 }
 
-// How often planning a generated list looks at a rank.
+// The visits that planning counts for a generated list.
 fn show_visits(
     rt: &HostRuntime,
     n: usize,
