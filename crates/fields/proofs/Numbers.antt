@@ -1,9 +1,9 @@
 -- Writing a number in bytes and reading it back. Assumes nothing.
-use Rattle.std.proofs.Common.{◌≡◌, ℕ, zero, suc, ◌+◌, ◌*◌, ◌/◌, ◌%◌, ◌^◌, ◌<◌, ◌≤◌, List, [], ◌∷◌, ◌++◌, length, get_or, take, drop, sym, refl, ap, ◌∙◌, ap₂, add-one, arith}
+use Rattle.std.proofs.Common.{◌≡◌, ℕ, zero, suc, ◌+◌, ◌-◌, ◌*◌, ◌/◌, ◌%◌, ◌^◌, ◌<◌, ◌≤◌, List, [], ◌∷◌, ◌++◌, length, get_or, take, drop, replicate, sym, refl, ap, ◌∙◌, ap₂, add-one, arith}
 use native.Mathlib.Nat.{pow-succ'}
 use Rattle.std.proofs.ByRecursion.{All-take, All-drop}
 use Rattle.std.proofs.lemmas.List.{length-drop, length-take-le, take-append-drop, drop-drop}
-use Rattle.fields.specs.Numbers.{Bytes, number, le, part}
+use Rattle.fields.specs.Numbers.{Bytes, number, le, part, filled}
 
 pub length-le : (k n : ℕ) → length (le k n) ≡ k
 length-le zero n = refl
@@ -69,9 +69,14 @@ le-part at k bs within h =
 pub part_then : {X : Type 0} (at k : ℕ) (xs : List X) → drop at xs ≡ part at k xs ++ drop (at + k) xs
 part_then at k xs = sym (take-append-drop k (drop at xs)) ∙ ap (λ l. part at k xs ++ l) (drop-drop k at xs)
 
--- four bytes as the machine writes them
-pub le_four : (n : ℕ) → n % 256 ∷ n / 256 % 256 ∷ n / 65536 % 256 ∷ n / 16777216 % 256 ∷ [] ≡ le 4 n
-le_four n =
-    let second : n / 65536 % 256 ≡ n / 256 / 256 % 256 = omega arith in
-    let third : n / 16777216 % 256 ≡ n / 256 / 256 / 256 % 256 = omega arith in
-    λ i. n % 256 ∷ n / 256 % 256 ∷ second i ∷ third i ∷ []
+number_zeros : (k : ℕ) → number (replicate k 0) ≡ 0
+number_zeros zero = refl
+number_zeros (suc k) = let rest = number_zeros k in omega arith
+
+number_append : (bs cs : List ℕ) → number cs ≡ 0 → number (bs ++ cs) ≡ number bs
+number_append [] cs h = h
+number_append (b ∷ bs) cs h = let rest = number_append bs cs h in omega arith
+
+-- zeros behind the last byte add nothing
+pub number_filled : (n : ℕ) (bs : List ℕ) → number (filled n 0 bs) ≡ number bs
+number_filled n bs = number_append bs (replicate (n - length bs) 0) (number_zeros (n - length bs))

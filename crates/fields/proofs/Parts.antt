@@ -1,8 +1,7 @@
 -- Parts of a list that is made of pieces of one length. Assumes nothing.
-use Rattle.std.proofs.Common.{◌≡◌, ℕ, zero, suc, ◌+◌, ◌-◌, ◌*◌, ◌<◌, min, List, [], ◌∷◌, ◌++◌, length, get_or, take, drop, sym, ap, ◌∙◌, ⊎_elim, append_assoc, suc-mul, add_comm, zero-mul, arith}
-use native.Mathlib.Nat.{sub-zero}
+use Rattle.std.proofs.Common.{◌≡◌, ℕ, zero, suc, ◌+◌, ◌*◌, ◌<◌, min, List, [], ◌∷◌, ◌++◌, length, get_or, take, drop, sym, ap, ◌∙◌, ⊎_elim, append_assoc, suc-mul, add_comm, zero-mul, arith}
 use Rattle.std.specs.List.{flat_map, AllByRecursion}
-use Rattle.std.proofs.lemmas.List.{length-append, take_at, take_all, take_rest, drop_at, drop_all, drop-drop}
+use Rattle.std.proofs.lemmas.List.{length-append, take_at, take_all, drop_at, drop-drop}
 use Rattle.std.proofs.lemmas.Bool.{cases_lt}
 use Rattle.fields.specs.Numbers.{part}
 
@@ -25,25 +24,6 @@ module _ {X Y : Type 0} (f : X → List Y) (w : ℕ) where
   part_joined (x ∷ xs) rest h (suc i) d lt =
       let at : suc i * w ≡ w + i * w = suc-mul i w ∙ add_comm (i * w) w in
       rw (at, append_assoc) (part_past w (i * w) w (f x ++ (flat_map f xs ++ rest)) ∙ ap (part (i * w) w) (drop_at (f x) (flat_map f xs ++ rest) w h.0) ∙ part_joined xs rest h.1 i d (omega arith))
-
--- to cut at the end is to cut anywhere past it
-drop_min : {X : Type 0} (at : ℕ) (xs : List X) → drop (min at (length xs)) xs ≡ drop at xs
-drop_min at xs =
-    ⊎_elim (λ l. ap (λ n. drop n xs) (omega arith)) (λ l. drop_all (min at (length xs)) xs (omega arith) ∙ sym (drop_all at xs (omega arith))) (cases_lt at (length xs))
-
-take_min : {X : Type 0} (k : ℕ) (xs : List X) → take (min k (length xs)) xs ≡ take k xs
-take_min k xs =
-    ⊎_elim (λ l. ap (λ n. take n xs) (omega arith)) (λ l. take_all (min k (length xs)) xs (omega arith) ∙ sym (take_all k xs (omega arith))) (cases_lt k (length xs))
-
--- a part, as slices cut at the end give it
-pub part_is : {X : Type 0} (xs : List X) (at k from count : ℕ) → from ≡ min at (length xs) → count ≡ min k (length (take (length xs - from) (drop from xs))) → take (count - 0) (take (length xs - from) (drop from xs)) ≡ part at k xs
-part_is xs at k from count f c =
-    let rest : take (length xs - from) (drop from xs) ≡ drop at xs = take_rest xs from ∙ ap (λ n. drop n xs) f ∙ drop_min at xs in
-    rw (sub-zero, c, rest) (take_min k (drop at xs))
-
--- offsets that are the same up to the end, or both past it
-pub part_far : {X : Type 0} (xs : List X) (at from k : ℕ) → min at (length xs) ≡ min from (length xs) → part at k xs ≡ part from k xs
-part_far xs at from k same = ap (take k) (sym (drop_min at xs) ∙ ap (λ n. drop n xs) same ∙ drop_min from xs)
 
 -- the front of a list of k elements, cut to what there is
 pub take-cut : {X : Type 0} (xs : List X) (n m k : ℕ) → length xs ≡ k → m ≡ min n k → take m xs ≡ take n xs
