@@ -46,11 +46,7 @@ fn step(h: u8, b: u8) -> u8
 pub fn chain(start: u8, key: &[u8]) -> u8
     ensures { result ≡ chained start key.now }
 {
-    let mut h = start;
-    for b in key {
-        h = step(h, *b);
-    }
-    h
+    key.iter().fold(start, |h, b| step(h, *b))
 }
 
 // The smaller priority is drawn earlier.
@@ -64,9 +60,7 @@ pub fn priority(key: &[u8]) -> u16
 pub fn drawn_before(a: &[u8], b: &[u8], by_key: Ordering) -> bool
     ensures { result ≡ drawn_before (λ _ _. by_key) a.now b.now }
 {
-    let first = priority(a);
-    let second = priority(b);
-    first < second || (first == second && by_key.is_lt())
+    priority(a).cmp(&priority(b)).then(by_key).is_lt()
 }
 
 #[cfg(test)]

@@ -1,41 +1,25 @@
--- A term field, byte after byte: what is left has to be zeros once a zero has come. Assumes nothing.
-use Rattle.std.proofs.Common.{◌≡◌, ℕ, ◌+◌, ◌<◌, Bool, true, false, cond, ◌&&◌, List, [], ◌∷◌, length, get_or, drop, refl, ap, ◌∙◌}
-use Rattle.std.proofs.lemmas.List.{at_drop_more}
-use Rattle.std.proofs.lemmas.Slice.{first_rest}
-use Rattle.std.proofs.lemmas.Bool.{eq-eqb, ne_eqb, cond-true, cond-false}
-use Rattle.std.specs.List.{between}
-use Rattle.kinds.specs.Rules.{is_printable, is_term, printable_then_zeros, starts_term, zeros}
+-- A term field: what comes after its printable bytes has to be zeros. Assumes nothing.
+use Rattle.std.proofs.Common.{◌≡◌, ℕ, suc, ◌+◌, Bool, true, false, cond, ◌&&◌, eqb, List, [], ◌∷◌, drop, refl, ap, ◌∙◌, arith}
+use Rattle.std.proofs.lemmas.List.Recursion.{same_from_clauses}
+use Rattle.std.specs.List.{list_all, prefix_len}
+use Rattle.kinds.specs.Rules.{is_printable, printable_then_zeros, zeros}
 
-abbrev pub left : Bool → List ℕ → Bool
-left ended bs = cond ended (zeros bs) (printable_then_zeros bs)
+abbrev pub is_zero : ℕ → Bool
+is_zero b = eqb b 0
 
-pub left_none : (ended : Bool) → left ended [] ≡ true
-left_none true = refl
-left_none false = refl
+all_zero : (bs : List ℕ) → list_all is_zero bs ≡ zeros bs
+all_zero bs = same_from_clauses (list_all is_zero) zeros (λ b rest. is_zero b && rest) refl (λ _ _. refl) (λ _ _. refl) bs
 
-left_zero : (ended : Bool) (b : ℕ) (bs : List ℕ) → b ≡ 0 → left ended (b ∷ bs) ≡ left true bs
-left_zero true b bs e = ap (λ t. t && zeros bs) (eq-eqb b 0 e)
-left_zero false b bs e = cond-false (is_printable b) _ _ (ap is_printable e) ∙ ap (λ t. t && zeros bs) (eq-eqb b 0 e)
+-- the byte in front is printable, or all from it on have to be zeros
+past : (printable : Bool) (b : ℕ) (bs : List ℕ) (n : ℕ) →
+    list_all is_zero (drop (cond printable (1 + n) 0) (b ∷ bs)) ≡ cond printable (list_all is_zero (drop n bs)) (zeros (b ∷ bs))
+past true b bs n =
+    let next : 1 + n ≡ suc n = omega arith in
+    ap (λ k. list_all is_zero (drop k (b ∷ bs))) next
+past false b bs n = all_zero (b ∷ bs)
 
--- a turn of a loop over the bytes, at the byte of index i
-module _ (ended : Bool) (bytes : List ℕ) (i : ℕ) (lt : i < length bytes) where
-  turn : (now : Bool) → ended ≡ now → left ended (drop i bytes) ≡ left now (get_or bytes i 0 ∷ drop (i + 1) bytes)
-  turn now e = ap (λ t. left t (drop i bytes)) e ∙ at_drop_more (left now) bytes i 0 lt
-
-  pub turn_zero : get_or bytes i 0 ≡ 0 → left ended (drop i bytes) ≡ left true (drop (i + 1) bytes)
-  turn_zero e = turn ended refl ∙ left_zero ended (get_or bytes i 0) (drop (i + 1) bytes) e
-
-  pub turn_printable : ended ≡ false → is_printable (get_or bytes i 0) ≡ true → left ended (drop i bytes) ≡ left false (drop (i + 1) bytes)
-  turn_printable e p = turn false e ∙ cond-true (is_printable (get_or bytes i 0)) _ _ p
-
-  pub turn_past : ended ≡ true → (get_or bytes i 0 ≡ 0 → ⊥) → left ended (drop i bytes) ≡ false
-  turn_past e ne = turn true e ∙ ap (λ t. t && zeros (drop (i + 1) bytes)) (ne_eqb (get_or bytes i 0) 0 ne)
-
-  pub turn_other : ended ≡ false → (get_or bytes i 0 ≡ 0 → ⊥) → is_printable (get_or bytes i 0) ≡ false → left ended (drop i bytes) ≡ false
-  turn_other e ne p =
-      turn false e ∙ cond-false (is_printable (get_or bytes i 0)) _ _ p ∙
-      ap (λ t. t && zeros (drop (i + 1) bytes)) (ne_eqb (get_or bytes i 0) 0 ne)
-
-pub term_rest : (bs : List ℕ) → 0 < length bs → starts_term (get_or bs 0 0) ≡ true → is_term bs ≡ printable_then_zeros (between 1 (length bs) bs)
-term_rest bs some starts =
-    ap is_term (first_rest bs 0 some) ∙ ap (λ t. t && printable_then_zeros (between 1 (length bs) bs)) starts
+pub zeros_after_printable : (bs : List ℕ) → list_all is_zero (drop (prefix_len is_printable bs) bs) ≡ printable_then_zeros bs
+zeros_after_printable [] = refl
+zeros_after_printable (b ∷ bs) =
+    past (is_printable b) b bs (prefix_len is_printable bs) ∙
+    ap (λ rest. cond (is_printable b) rest (zeros (b ∷ bs))) (zeros_after_printable bs)

@@ -1,4 +1,5 @@
 pub mod Kind
 pub mod Rules
+pub mod States
 pub mod Paragraphs
 pub mod IndexMarks

@@ -1,5 +1,5 @@
 // The entry kind: a type with no values that says how messages are read.
-ghost use Rattle.std.specs.Prelude.{◌≡◌};
+ghost use Rattle.std.specs.Prelude.{◌≡◌, ℕ};
 ghost use Rattle.kinds.specs.Kind.{Kind, Lawful};
 
 use std::cmp::Ordering;
@@ -12,17 +12,13 @@ pub trait EntryKind {
 
     const KEY_LENGTH: usize;
 
+    ghost NUMBER: { ℕ };
+
+    ghost WIDTH: { ℕ };
+
+    ghost KEY_LENGTH: { ℕ };
+
     ghost kind: { Kind };
-
-    fn kind_number() -> u8
-        ensures { result ≡ kind.number };
-
-    fn message_width() -> usize
-        ensures { result ≡ kind.width };
-
-    // The key is the first so many bytes of a message.
-    fn key_width() -> usize
-        ensures { result ≡ kind.key_width };
 
     // The offset of the first invalid field, or none where the message is valid.
     fn invalid_at(message: &[u8]) -> Option<usize>
@@ -31,6 +27,7 @@ pub trait EntryKind {
     fn measure(message: &[u8]) -> u16
         ensures { result ≡ kind.measured message.now };
 
+    // Keys may compare by more than fields, so each kind says how.
     fn compare_keys(a: &[u8], b: &[u8]) -> Ordering
         ensures { result ≡ kind.key_order a.now b.now };
 
@@ -39,4 +36,26 @@ pub trait EntryKind {
         ensures { result ≡ kind.rank_order a.now b.now };
 
     ghost lawful: { Lawful kind };
+
+    // The constants are the kind's.
+    ghost constants: { (NUMBER ≡ kind.number) × (WIDTH ≡ kind.width) × (KEY_LENGTH ≡ kind.key_width) };
+
+    final fn kind_number() -> u8
+        ensures { result ≡ kind.number }
+    {
+        Self::NUMBER
+    }
+
+    final fn message_width() -> usize
+        ensures { result ≡ kind.width }
+    {
+        Self::WIDTH
+    }
+
+    // The key is the first so many bytes of a message.
+    final fn key_width() -> usize
+        ensures { result ≡ kind.key_width }
+    {
+        Self::KEY_LENGTH
+    }
 }

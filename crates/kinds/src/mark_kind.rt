@@ -1,5 +1,5 @@
 // The kind of index marks.
-ghost use Rattle.std.specs.Prelude.{◌≡◌, ◌≤◌, take, ◌==◌, slice_index, refl};
+ghost use Rattle.std.specs.Prelude.{◌≤◌, ◌==◌, slice_index, refl};
 ghost use Rattle.kinds.specs.IndexMarks.{index_marks, mark_key, mark_rank};
 ghost use Rattle.std.proofs.Common.{arith, lit≤};
 ghost use Rattle.std.proofs.lemmas.Bool.{cond_both};
@@ -7,7 +7,8 @@ ghost use Rattle.layout.proofs.Determined.{total_keys, total_ranks};
 
 use crate::kind::EntryKind;
 use crate::rules;
-use fields::byte_at;
+use crate::state::State;
+use fields::{byte_at, slice_at};
 use layout::{Field, compare_fields, first_invalid};
 use std::cmp::Ordering;
 
@@ -72,13 +73,6 @@ const RANK_FIELDS: [Field; 4] = [
     Field::Byte(EMPHASIS),
 ];
 
-// The bytes of the term field, as far as they are there.
-fn term_field(message: &[u8]) -> &[u8]
-    ensures { result.now ≡ take 16 message.now }
-{
-    &message[0..message.len().min(TERM_WIDTH)]
-}
-
 pub struct IndexMarks;
 
 impl EntryKind for IndexMarks {
@@ -87,6 +81,12 @@ impl EntryKind for IndexMarks {
     const WIDTH: usize = 28;
 
     const KEY_LENGTH: usize = 21;
+
+    ghost NUMBER = { 2 };
+
+    ghost WIDTH = { 28 };
+
+    ghost KEY_LENGTH = { 21 };
 
     ghost kind = { index_marks };
 
@@ -102,37 +102,27 @@ impl EntryKind for IndexMarks {
       measure = λ m h. cond_both (slice_index m 22 == 1) 1 0 (λ n. n ≤ 1000) (λ _. omega arith) (λ _. omega arith);
     } };
 
-    fn kind_number() -> u8 {
-        Self::NUMBER
-    }
-
-    fn message_width() -> usize {
-        Self::WIDTH
-    }
-
-    fn key_width() -> usize {
-        Self::KEY_LENGTH
-    }
+    ghost constants = { (refl, refl, refl) };
 
     fn invalid_at(message: &[u8]) -> Option<usize> {
-        let state = byte_at(message, STATE);
+        let state = State::try_from(byte_at(message, STATE));
+        let emphasis = byte_at(message, EMPHASIS);
         first_invalid(&[
-            (TERM, rules::is_term(term_field(message))),
+            (TERM, rules::is_term(slice_at(message, TERM, TERM_WIDTH))),
             (ORIGIN, rules::is_office(byte_at(message, ORIGIN))),
             (SENDER, rules::is_office(byte_at(message, SENDER))),
-            (STATE, rules::is_state(state)),
+            (STATE, state.is_ok()),
             (
                 EMPHASIS,
-                rules::emphasis_fits(state, byte_at(message, EMPHASIS)),
+                state.is_ok_and(|state| rules::emphasis_fits(state, emphasis)),
             ),
         ])
     }
 
     fn measure(message: &[u8]) -> u16 {
-        if byte_at(message, STATE) == rules::SET {
-            1
-        } else {
-            0
+        match State::try_from(byte_at(message, STATE)) {
+            Ok(State::Set) => 1,
+            _ => 0,
         }
     }
 

@@ -7,7 +7,8 @@ ghost use Rattle.layout.proofs.Fields.{byte_below};
 
 use crate::kind::EntryKind;
 use crate::rules;
-use fields::{byte_at, u32_at};
+use crate::state::State;
+use fields::{LittleEndian, byte_at};
 use layout::{Field, compare_fields, first_invalid};
 use std::cmp::Ordering;
 
@@ -44,6 +45,12 @@ impl EntryKind for Paragraphs {
 
     const KEY_LENGTH: usize = 5;
 
+    ghost NUMBER = { 1 };
+
+    ghost WIDTH = { 16 };
+
+    ghost KEY_LENGTH = { 5 };
+
     ghost kind = { paragraphs };
 
     ghost lawful = { record {
@@ -58,26 +65,21 @@ impl EntryKind for Paragraphs {
       measure = λ m h. let below = byte_below m 7 h in omega arith;
     } };
 
-    fn kind_number() -> u8 {
-        Self::NUMBER
-    }
-
-    fn message_width() -> usize {
-        Self::WIDTH
-    }
-
-    fn key_width() -> usize {
-        Self::KEY_LENGTH
-    }
+    ghost constants = { (refl, refl, refl) };
 
     fn invalid_at(message: &[u8]) -> Option<usize> {
-        let state = byte_at(message, STATE);
+        let state = State::try_from(byte_at(message, STATE));
+        let lines = byte_at(message, LINES);
+        let text = u32::read_at(message, TEXT);
         first_invalid(&[
             (ORIGIN, rules::is_office(byte_at(message, ORIGIN))),
             (SENDER, rules::is_office(byte_at(message, SENDER))),
-            (STATE, rules::is_state(state)),
-            (LINES, rules::lines_fit(state, byte_at(message, LINES))),
-            (TEXT, rules::text_fits(state, u32_at(message, TEXT))),
+            (STATE, state.is_ok()),
+            (
+                LINES,
+                state.is_ok_and(|state| rules::lines_fit(state, lines)),
+            ),
+            (TEXT, state.is_ok_and(|state| rules::text_fits(state, text))),
         ])
     }
 

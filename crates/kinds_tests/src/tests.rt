@@ -1,5 +1,5 @@
 // Messages at the edge of every field, orders of messages that differ in one field, and figures of a separate model.
-use kinds::{EntryKind, IndexMarks, Paragraphs, drawn_before};
+use kinds::{EntryKind, IndexMarks, Paragraphs, State, UnknownState, drawn_before};
 use std::cmp::Ordering;
 use std::process::Abort;
 
@@ -12,6 +12,28 @@ const CUT_PARAGRAPH: [u8; 16] = [1, 0, 0, 0, 1, 1, 2, 0, 1, 0, 0, 0, 0, 0, 0, 0]
 const SET_MARK: [u8; 28] = *b"Ox yoke\0\0\0\0\0\0\0\0\0\x01\0\0\0\x01\x01\x01\x01\x01\0\0\0";
 
 const CUT_MARK: [u8; 28] = *b"Ox yoke\0\0\0\0\0\0\0\0\0\x01\0\0\0\x01\x01\x02\0\x01\0\0\0";
+
+// The message with another byte at an offset.
+fn with_byte<const N: usize>(
+    rt: &impl Abort,
+    mut message: [u8; N],
+    at: usize,
+    byte: u8,
+) -> [u8; N] {
+    assert!(rt; at < N);
+    message[at] = byte;
+    message
+}
+
+#[test]
+fn states_and_their_numbers(rt: HostRuntime) {
+    assert_eq!(rt; (u8::from(State::Set), u8::from(State::Cut)), (1, 2));
+    assert_eq!(rt; State::try_from(1), Ok(State::Set));
+    assert_eq!(rt; State::try_from(2), Ok(State::Cut));
+    for number in [0, 3, 255] {
+        assert_eq!(rt; State::try_from(number), Err(UnknownState(number)));
+    }
+}
 
 #[test]
 fn numbers_and_widths(rt: HostRuntime) {
@@ -75,9 +97,7 @@ fn edges_of_a_set_paragraph(rt: HostRuntime) {
         (15, 255, None),
     ];
     for (at, byte, expected) in cases {
-        assert!(rt; at < 16);
-        let mut message = SET_PARAGRAPH;
-        message[at] = byte;
+        let message = with_byte(&rt, SET_PARAGRAPH, at, byte);
         assert_eq!(rt; Paragraphs::invalid_at(&message), expected);
     }
 }
@@ -94,9 +114,7 @@ fn edges_of_a_cut_paragraph(rt: HostRuntime) {
         (4, 251, Some(4)),
     ];
     for (at, byte, expected) in cases {
-        assert!(rt; at < 16);
-        let mut message = CUT_PARAGRAPH;
-        message[at] = byte;
+        let message = with_byte(&rt, CUT_PARAGRAPH, at, byte);
         assert_eq!(rt; Paragraphs::invalid_at(&message), expected);
     }
 }
@@ -130,15 +148,14 @@ fn edges_of_a_set_mark(rt: HostRuntime) {
         (27, 255, None),
     ];
     for (at, byte, expected) in cases {
-        assert!(rt; at < 28);
-        let mut message = SET_MARK;
-        message[at] = byte;
+        let message = with_byte(&rt, SET_MARK, at, byte);
         assert_eq!(rt; IndexMarks::invalid_at(&message), expected);
     }
     assert_eq!(rt; IndexMarks::invalid_at(&CUT_MARK), None);
-    let mut cut = CUT_MARK;
-    cut[23] = 1;
-    assert_eq!(rt; IndexMarks::invalid_at(&cut), Some(23));
+    assert_eq!(rt;
+        IndexMarks::invalid_at(&with_byte(&rt, CUT_MARK, 23, 1)),
+        Some(23)
+    );
 }
 
 #[test]
@@ -215,9 +232,7 @@ fn orders_of_pairs_that_differ_in_one_field(rt: HostRuntime) {
     keys::<Paragraphs>(&rt, &[2, 0, 0, 0, 1], &[1, 0, 0, 0, 250], Ordering::Greater);
     let changes: [(usize, u8); 6] = [(22, 2), (24, 2), (27, 1), (21, 2), (23, 2), (26, 1)];
     for (at, byte) in changes {
-        assert!(rt; at < 28);
-        let mut higher = SET_MARK;
-        higher[at] = byte;
+        let higher = with_byte(&rt, SET_MARK, at, byte);
         ranks::<IndexMarks>(&rt, &SET_MARK, &higher, Ordering::Less);
         ranks::<IndexMarks>(&rt, &higher, &SET_MARK, Ordering::Greater);
     }
@@ -537,11 +552,10 @@ fn rank_order_figures(rt: HostRuntime) {
 fn drawing_order(rt: HostRuntime) {
     // places 1 to 8 of office 1, in the order in which they are drawn
     let places: [u8; 8] = [6, 4, 2, 5, 7, 1, 8, 3];
-    for i in 0..8 {
-        for j in 0..8 {
-            let a = [places[i], 0, 0, 0, 1];
-            let b = [places[j], 0, 0, 0, 1];
-            assert_eq!(rt; drawn_before::<Paragraphs>(&a, &b), i < j);
+    for (i, a) in places.iter().enumerate() {
+        for (j, b) in places.iter().enumerate() {
+            let drawn = drawn_before::<Paragraphs>(&[*a, 0, 0, 0, 1], &[*b, 0, 0, 0, 1]);
+            assert_eq!(rt; drawn, i < j);
         }
     }
     // one priority, so the smaller place is drawn first

@@ -1,9 +1,10 @@
 -- What it is for an order to be total, and the comparison of lists of numbers. Assumes nothing.
-use Rattle.std.specs.Prelude.{◌≡◌, ℕ, List, [], ◌∷◌}
-use Rattle.std.specs.declared.cmp.Ordering.TheVariants.{Less, Equal, Greater}
+use Rattle.std.specs.Prelude.{◌≡◌, ℕ, List}
+use Rattle.std.specs.declared.cmp.Ordering.TheVariants.{Less, Equal}
 use Rattle.std.specs.declared.cmp.Ordering.{Ordering}
 use Rattle.std.specs.Ordering.{nat_cmp as compared}
-use Rattle.std.specs.Ordering.{ordering_reverse, ordering_then}
+use Rattle.std.specs.Ordering.{ordering_reverse}
+use Rattle.std.specs.Cmp.Lexicographic.{slice_cmp}
 
 -- The order is total over all of which D holds. It answers one of three, so every two can be compared; equals come out
 -- equal, and nothing else does; what is less one way is greater the other way; less is transitive.
@@ -15,7 +16,4 @@ pub record TotalOrder {X : Type 0} (D : X → Type 0) (order : X → X → Order
 
 -- the first two numbers that differ decide; a list that ends first is less
 abbrev pub lexical : List ℕ → List ℕ → Ordering
-lexical [] [] = Equal
-lexical [] (y ∷ ys) = Less
-lexical (x ∷ xs) [] = Greater
-lexical (x ∷ xs) (y ∷ ys) = ordering_then (compared x y) (lexical xs ys)
+lexical xs ys = slice_cmp compared xs ys

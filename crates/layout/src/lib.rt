@@ -3,9 +3,9 @@
 
 ghost use Rattle.std.specs.Prelude.{◌≡◌};
 ghost use Rattle.std.specs.Ordering.{nat_cmp as compared};
-ghost use Rattle.layout.specs.Layout.{by_fields, first_invalid, lowered, value as valued};
+ghost use Rattle.layout.specs.Layout.{by_fields, first_invalid, value as valued};
 
-use fields::{byte_at, u32_at};
+use fields::{LittleEndian, byte_at};
 use std::cmp::Ordering;
 
 // What two messages are compared by: a byte, a byte with A to Z read as a to z, or a number of four bytes, each at an
@@ -23,8 +23,8 @@ impl Field {
     {
         match self {
             Field::Byte(at) => u32::from(byte_at(message, at)),
-            Field::Folded(at) => u32::from(lower(byte_at(message, at))),
-            Field::Number(at) => u32_at(message, at),
+            Field::Folded(at) => u32::from(byte_at(message, at).to_ascii_lowercase()),
+            Field::Number(at) => u32::read_at(message, at),
         }
     }
 
@@ -35,33 +35,20 @@ impl Field {
     }
 }
 
-fn lower(b: u8) -> u8
-    ensures { result ≡ lowered b }
-{
-    if b >= b'A' && b <= b'Z' { b + 32 } else { b }
-}
-
 // The first of the fields that differs decides.
 pub fn compare_fields(a: &[u8], b: &[u8], fields: &[Field]) -> Ordering
     ensures { result ≡ by_fields fields.now a.now b.now }
 {
-    for field in fields {
-        let order = field.compare(a, b);
-        if order.is_ne() {
-            return order;
-        }
-    }
-    Ordering::Equal
+    fields
+        .iter()
+        .map(|field| field.compare(a, b))
+        .find(|order| order.is_ne())
+        .unwrap_or(Ordering::Equal)
 }
 
-// The first offset whose test failed.
+// The first offset whose test failed. A test is a pair, an offset and whether the field there is valid, as in the rules.
 pub fn first_invalid(tests: &[(usize, bool)]) -> Option<usize>
     ensures { result ≡ first_invalid tests.now }
 {
-    for (at, passed) in tests {
-        if !*passed {
-            return Some(*at);
-        }
-    }
-    None
+    tests.iter().find(|(_, passed)| !passed).map(|(at, _)| *at)
 }

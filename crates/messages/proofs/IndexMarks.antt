@@ -1,5 +1,5 @@
 -- Encoding and decoding an index mark are inverse to each other. Assumes nothing.
-use Rattle.std.proofs.Common.{◌≡◌, ℕ, ◌+◌, true, false, List, ◌∷◌, ◌++◌, length, take, drop, is_some, Some, None, ap, ◌∙◌, ap₂, arith}
+use Rattle.std.proofs.Common.{◌≡◌, ℕ, ◌+◌, ◌^◌, ◌<◌, true, false, List, ◌∷◌, ◌++◌, length, take, drop, is_some, Some, None, ap, ◌∙◌, ap₂, arith}
 use Rattle.std.proofs.lemmas.List.{drop_at, length-append, take-append-drop, take_at}
 use Rattle.std.specs.Bool.{then_some}
 use Rattle.fields.proofs.Numbers.{number-le}
@@ -8,12 +8,18 @@ use Rattle.layout.proofs.Fields.{tests_passed}
 use Rattle.layout.specs.Layout.{byte_at, number_at}
 use Rattle.kinds.specs.IndexMarks.{mark_invalid, mark_tests, index_marks}
 use Rattle.kinds.specs.Rules.{is_state}
-use Rattle.messages.specs.IndexMark.{Narrow, after_term, decoded, encoded, read}
-use Rattle.messages.specs.Messages.{is_message}
-use Rattle.messages.specs.States.{state_of}
+use Rattle.messages.specs.IndexMark.{after_term, encoded, read}
+use Rattle.messages.specs.Messages.{decoded, is_message}
+use Rattle.kinds.specs.States.{state_of}
 use Rattle.messages.specs.declared.mark_message.IndexMark.{IndexMark}
 use Rattle.messages.proofs.Parts.{byte_before, byte_within, number-before, number_last, number_of_state, number_within, state_of_number}
 use Rattle.messages.proofs.Validity.{is_message_lem, message_length, message_valid_lem}
+
+-- the term has sixteen bytes, and the numbers no more than four
+pub record Narrow (k : IndexMark) : Type 0 where
+  pub term : length k.term ≡ 16
+  pub place : k.place < 2 ^ 32
+  pub stamp : k.stamp < 2 ^ 32
 
 module _ (k : IndexMark) (narrow : Narrow k) where
   after_term_lem : drop 16 (encoded k) ≡ after_term k
@@ -41,13 +47,13 @@ module _ (k : IndexMark) (narrow : Narrow k) where
         stamp = stamps i;
       }
 
-  pub decoded-encoded : mark_invalid (encoded k) ≡ None → decoded (encoded k) ≡ Some k
+  pub decoded-encoded : mark_invalid (encoded k) ≡ None → decoded index_marks read (encoded k) ≡ Some k
   decoded-encoded valid =
       let wide : length (encoded k) ≡ 28 = length-append k.term (after_term k) ∙ ap (λ n. n + 12) narrow.term in
       ap (λ t. then_some t (read (encoded k))) (is_message_lem index_marks (encoded k) wide (ap is_some valid)) ∙
       ap Some read-encoded
 
-state_valid : (m : List ℕ) → is_some (mark_invalid m) ≡ false → is_state (byte_at m 22) ≡ true
+pub state_valid : (m : List ℕ) → is_some (mark_invalid m) ≡ false → is_state (byte_at m 22) ≡ true
 state_valid m valid = (tests_passed (mark_tests m) valid).1.1.1.0
 
 pub encoded-read : (m : List ℕ) → Bytes m → is_message index_marks m ≡ true → encoded (read m) ≡ m

@@ -1,35 +1,14 @@
--- Encoding and decoding a paragraph are inverse to each other. Assumes nothing.
-use Rattle.std.proofs.Common.{◌≡◌, ℕ, true, false, List, ◌∷◌, ◌++◌, is_some, Some, None, refl, ap, ◌∙◌, ap₂, arith}
-use Rattle.std.specs.Bool.{then_some}
-use Rattle.fields.proofs.Numbers.{number-le}
+-- A paragraph that is read from a valid message encodes to it again. Assumes nothing.
+use Rattle.std.proofs.Common.{◌≡◌, ℕ, true, false, List, ◌∷◌, ◌++◌, is_some, ap, ◌∙◌, ap₂, arith}
 use Rattle.fields.specs.Numbers.{Bytes, le}
 use Rattle.layout.proofs.Fields.{tests_passed}
 use Rattle.layout.specs.Layout.{byte_at, number_at}
 use Rattle.kinds.specs.Paragraphs.{paragraph_invalid, paragraph_tests, paragraphs}
 use Rattle.kinds.specs.Rules.{is_state}
-use Rattle.messages.specs.Paragraph.{Narrow, decoded, encoded, read}
+use Rattle.messages.specs.Paragraph.{encoded, read}
 use Rattle.messages.specs.Messages.{is_message}
-use Rattle.messages.specs.declared.paragraph_message.Paragraph.{Paragraph}
-use Rattle.messages.proofs.Parts.{byte_before, number-before, number_last, number_of_state, state_of_number}
-use Rattle.messages.proofs.Validity.{is_message_lem, message_length, message_valid_lem}
-
-read-encoded : (p : Paragraph) → Narrow p → read (encoded p) ≡ p
-read-encoded p narrow =
-    λ i.
-    record {
-      place = number-le 4 p.place narrow.place i;
-      origin = p.origin;
-      sender = p.sender;
-      state = state_of_number p.state i;
-      lines = p.lines;
-      stamp = number-le 4 p.stamp narrow.stamp i;
-      text = number-le 4 p.text narrow.text i;
-    }
-
-pub decoded-encoded : (p : Paragraph) → Narrow p → paragraph_invalid (encoded p) ≡ None → decoded (encoded p) ≡ Some p
-decoded-encoded p narrow valid =
-    ap (λ t. then_some t (read (encoded p))) (is_message_lem paragraphs (encoded p) refl (ap is_some valid)) ∙
-    ap Some (read-encoded p narrow)
+use Rattle.messages.proofs.Parts.{byte_before, number-before, number_last, number_of_state}
+use Rattle.messages.proofs.Validity.{message_length, message_valid_lem}
 
 state_valid : (m : List ℕ) → is_some (paragraph_invalid m) ≡ false → is_state (byte_at m 6) ≡ true
 state_valid m valid = (tests_passed (paragraph_tests m) valid).1.1.0

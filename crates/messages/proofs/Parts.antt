@@ -1,36 +1,23 @@
 -- Putting the fields of a message together again. Assumes nothing.
-use Rattle.std.proofs.Common.{◌≡◌, ℕ, ◌+◌, ◌/◌, ◌%◌, ◌<◌, ◌≤◌, true, List, [], ◌∷◌, ◌++◌, length, take, drop, sym, refl, ap, ◌∙◌, ap₂, ⊎_elim, arith}
+use Rattle.std.proofs.Common.{◌≡◌, ℕ, ◌+◌, ◌<◌, ◌≤◌, true, List, [], ◌∷◌, ◌++◌, length, take, drop, sym, refl, ap, ◌∙◌, ap₂, arith}
 use borrow.Rule.Slice.PartMut.{put_mid}
 use Rattle.std.proofs.ByRecursion.{All-take, All-drop}
 use Rattle.std.proofs.lemmas.List.{append-nil, drop_all, drop_at, drop-drop, drop_more, get_or-drop, length-drop, length-take, take-append-drop, take_at}
-use Rattle.std.proofs.lemmas.Bool.{cond-true, cond-false, cases_Bool, eqb-true, or_cases}
+use Rattle.std.proofs.lemmas.Bool.Decides.{nat_tests}
 use Rattle.fields.proofs.Numbers.{le-number}
 use Rattle.fields.specs.Numbers.{Bytes, le, number}
 use Rattle.layout.specs.Layout.{byte_at, number_at}
-use Rattle.kinds.specs.Rules.{is_set, is_cut, is_state}
-use Rattle.messages.specs.States.{state_number, state_of}
-use Rattle.messages.specs.declared.state.State.{State}
-use Rattle.messages.specs.declared.state.State.TheVariants.{Set, Cut}
-
--- four bytes as the machine writes them
-pub le_four : (n : ℕ) → n % 256 ∷ n / 256 % 256 ∷ n / 65536 % 256 ∷ n / 16777216 % 256 ∷ [] ≡ le 4 n
-le_four n =
-    let second : n / 65536 % 256 ≡ n / 256 / 256 % 256 = omega arith in
-    let third : n / 16777216 % 256 ≡ n / 256 / 256 / 256 % 256 = omega arith in
-    λ i. n % 256 ∷ n / 256 % 256 ∷ second i ∷ third i ∷ []
+use Rattle.kinds.specs.Rules.{is_state}
+use Rattle.kinds.specs.States.{state_number, state_of}
+use Rattle.kinds.specs.declared.state.State.{State}
+use Rattle.kinds.specs.declared.state.State.TheVariants.{Set, Cut}
 
 pub state_of_number : (s : State) → state_of (state_number s) ≡ s
 state_of_number Set = refl
 state_of_number Cut = refl
 
 pub number_of_state : (n : ℕ) → is_state n ≡ true → state_number (state_of n) ≡ n
-number_of_state n valid =
-    ⊎_elim (λ set. ap state_number (cond-true (is_set n) _ _ set) ∙ sym (eqb-true n 1 set))
-    (λ other.
-    ⊎_elim (λ set. ap state_number (cond-true (is_set n) _ _ set) ∙ sym (eqb-true n 1 set))
-    (λ cut. ap state_number (cond-false (is_set n) _ _ other) ∙ sym (eqb-true n 2 cut))
-    (or_cases (is_set n) (is_cut n) valid))
-    (cases_Bool (is_set n))
+number_of_state n valid = grind (arith, nat_tests)
 
 -- a byte, and a number of four bytes, before what follows it in the message
 pub byte_before : (m : List ℕ) (i : ℕ) → i < length m → byte_at m i ∷ drop (i + 1) m ≡ drop i m

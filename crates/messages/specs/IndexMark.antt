@@ -1,18 +1,9 @@
 -- A typed index mark and its message. Assumes nothing.
-use Rattle.std.specs.Prelude.{◌≡◌, ℕ, ◌^◌, ◌<◌, List, ◌∷◌, ◌++◌, length, take, Option}
-use Rattle.std.specs.Bool.{then_some}
+use Rattle.std.specs.Prelude.{ℕ, List, ◌∷◌, ◌++◌, take}
 use Rattle.fields.specs.Numbers.{le}
 use Rattle.layout.specs.Layout.{byte_at, number_at}
-use Rattle.kinds.specs.IndexMarks.{index_marks}
-use Rattle.messages.specs.Messages.{is_message}
-use Rattle.messages.specs.States.{state_number, state_of}
+use Rattle.kinds.specs.States.{state_number, state_of}
 use Rattle.messages.specs.declared.mark_message.IndexMark.{IndexMark}
-
--- the term has sixteen bytes, and the numbers no more than four
-pub record Narrow (k : IndexMark) : Type 0 where
-  pub term : length k.term ≡ 16
-  pub place : k.place < 2 ^ 32
-  pub stamp : k.stamp < 2 ^ 32
 
 -- what follows the term in the message of a mark
 abbrev pub after_term : IndexMark → List ℕ
@@ -35,7 +26,3 @@ read m =
       emphasis = byte_at m 23;
       stamp = number_at m 24;
     }
-
--- the mark of a valid message
-abbrev pub decoded : List ℕ → Option IndexMark
-decoded m = then_some (is_message index_marks m) (read m)

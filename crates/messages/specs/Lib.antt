@@ -1,4 +1,3 @@
 pub mod Messages
-pub mod States
 pub mod Paragraph
 pub mod IndexMark

@@ -1,18 +1,9 @@
 -- A typed paragraph and its message. Assumes nothing.
-use Rattle.std.specs.Prelude.{ℕ, ◌^◌, ◌<◌, List, ◌∷◌, ◌++◌, Option}
-use Rattle.std.specs.Bool.{then_some}
+use Rattle.std.specs.Prelude.{ℕ, List, ◌∷◌, ◌++◌}
 use Rattle.fields.specs.Numbers.{le}
 use Rattle.layout.specs.Layout.{byte_at, number_at}
-use Rattle.kinds.specs.Paragraphs.{paragraphs}
-use Rattle.messages.specs.Messages.{is_message}
-use Rattle.messages.specs.States.{state_number, state_of}
+use Rattle.kinds.specs.States.{state_number, state_of}
 use Rattle.messages.specs.declared.paragraph_message.Paragraph.{Paragraph}
-
--- the numbers have no more than four bytes
-pub record Narrow (p : Paragraph) : Type 0 where
-  pub place : p.place < 2 ^ 32
-  pub stamp : p.stamp < 2 ^ 32
-  pub text : p.text < 2 ^ 32
 
 -- the message of a paragraph
 abbrev pub encoded : Paragraph → List ℕ
@@ -31,7 +22,3 @@ read m =
       stamp = number_at m 8;
       text = number_at m 12;
     }
-
--- the paragraph of a valid message
-abbrev pub decoded : List ℕ → Option Paragraph
-decoded m = then_some (is_message paragraphs m) (read m)

@@ -2,14 +2,14 @@
 #![tactic(auto)]
 
 mod mark_message;
-mod numbers;
+mod message;
 mod paragraph_message;
-mod state;
 mod valid;
 
+pub use kinds::State;
 pub use mark_message::IndexMark;
+pub use message::Message;
 pub use paragraph_message::Paragraph;
-pub use state::State;
 pub use valid::is_message;
 
 #[cfg(test)]

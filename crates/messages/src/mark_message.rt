@@ -1,16 +1,13 @@
 // An index mark as a typed value.
-ghost use Rattle.std.specs.Prelude.{◌≡◌, ◌≤◌, ◌++◌, length, Some, None};
-ghost use Rattle.kinds.specs.IndexMarks.{mark_invalid};
-ghost use Rattle.messages.specs.IndexMark.{Narrow, decoded, encoded, read as fields_of};
+ghost use Rattle.std.specs.Prelude.{◌≡◌, ◌++◌, length};
+ghost use Rattle.messages.specs.IndexMark.{encoded, read as fields_of};
 
-use crate::numbers::le_bytes;
-use crate::state::State;
-use crate::valid::is_message;
-use fields::{byte_at, u32_at};
-use kinds::IndexMarks;
+use crate::message::{Fields, Message};
+use fields::{LittleEndian, byte_at};
+use kinds::{IndexMarks, State};
 
 // The term is filled up with zeros.
-#[derive(Clone, Copy, Debug)]
+#[derive(Clone, Copy, PartialEq, Eq, Debug)]
 pub struct IndexMark {
     pub term: [u8; 16],
     pub place: u32,
@@ -21,20 +18,28 @@ pub struct IndexMark {
     pub stamp: u32,
 }
 
-impl IndexMark {
-    // The message of a mark. It is valid only if the fields are.
-    pub fn encode(&self) -> [u8; 28]
-        ensures value { result ≡ encoded self.now }
-        ensures inverse { mark_invalid result ≡ None → decoded result ≡ Some self.now }
-    {
-        self.bytes()
-    }
+impl Fields for IndexMark {
+    type Kind = IndexMarks;
 
-    // The fields one after the other.
-    fn bytes(&self) -> [u8; 28]
-        ensures value { result ≡ encoded self.now }
-        ensures narrow { Narrow self.now }
-    {
+    ghost encoded = { encoded };
+
+    ghost fields = { fields_of };
+
+    fn read(message: &[u8]) -> IndexMark {
+        IndexMark {
+            term: message[0..16].try_into().unwrap(),
+            place: u32::read_at(message, 16),
+            origin: byte_at(message, 20),
+            sender: byte_at(message, 21),
+            state: State::try_from(byte_at(message, 22)).unwrap(),
+            emphasis: byte_at(message, 23),
+            stamp: u32::read_at(message, 24),
+        }
+    }
+}
+
+impl Message<28> for IndexMark {
+    fn encode(&self) -> [u8; 28] {
         let IndexMark {
             term,
             place,
@@ -44,8 +49,8 @@ impl IndexMark {
             emphasis,
             stamp,
         } = *self;
-        let [p0, p1, p2, p3] = le_bytes(place);
-        let [s0, s1, s2, s3] = le_bytes(stamp);
+        let [p0, p1, p2, p3]: [u8; 4] = place.to_bytes();
+        let [s0, s1, s2, s3]: [u8; 4] = stamp.to_bytes();
         joined(
             &term,
             &[
@@ -55,7 +60,7 @@ impl IndexMark {
                 p3,
                 origin,
                 sender,
-                state.number(),
+                u8::from(state),
                 emphasis,
                 s0,
                 s1,
@@ -63,36 +68,6 @@ impl IndexMark {
                 s3,
             ],
         )
-    }
-
-    // The mark of a valid message; none where the length is wrong or a field is invalid.
-    pub fn decode(message: &[u8]) -> Option<IndexMark>
-        ensures value { result ≡ decoded message.now }
-        ensures inverse { (k : IndexMark) → result ≡ Some k → encoded k ≡ message.now }
-    {
-        if is_message::<IndexMarks>(message) {
-            Some(IndexMark::read(message))
-        } else {
-            None
-        }
-    }
-
-    // What the fields of a message hold.
-    fn read(message: &[u8]) -> IndexMark
-        requires { 16 ≤ length message.now }
-        ensures { result ≡ fields_of message.now }
-    {
-        let mut term = [0; 16];
-        term.copy_from_slice(&message[0..16]);
-        IndexMark {
-            term,
-            place: u32_at(message, 16),
-            origin: byte_at(message, 20),
-            sender: byte_at(message, 21),
-            state: State::numbered(byte_at(message, 22)),
-            emphasis: byte_at(message, 23),
-            stamp: u32_at(message, 24),
-        }
     }
 }
 

@@ -1,25 +1,20 @@
-use Rattle.std.proofs.Common.{sym, ap, ◌∙◌}
-use Rattle.std.proofs.lemmas.List.{at_drop_all}
+use Rattle.std.proofs.Common.{◌≡◌, map, sym, ap, ◌∙◌, Equal, rules, tests}
+use Rattle.std.proofs.lemmas.Iterator.{YieldsList-from_map, YieldsList-from_slice}
+use Rattle.std.proofs.lemmas.Iterator.Adapters.{option_map_id}
+use Rattle.std.proofs.lemmas.Iterator.Search.{find_from_yields_List}
+use Rattle.std.specs.List.{find}
+use Rattle.std.specs.Option.{option_map, unwrap_or}
 use Rattle.std.specs.Ordering.{is_ne}
-use Rattle.layout.specs.Layout.{by_fields}
-use Rattle.layout.proofs.Fields.{fields_more, then_decided, then_equal}
+use Rattle.layout.proofs.Fields.{by_field, first_decides}
 use Rattle.layout.proofs.compare_fields.Goals as goal
-
-pub loop-field-preserved : goal.loop-field-preserved
-loop-field-preserved c =
-    let step = fields_more c.args.fields.now c.args.a.now c.args.b.now c.loop-field.field-index c.loop-field-test.true in
-    let equal = ap is_ne (sym c.compare-order.ensures) ∙ sym c.if-is_ne.ensures in
-    sym (step ∙ then_equal _ _ equal) ∙ c.loop-field.invariant
-
-pub returns-then-is_ne : goal.returns-then-is_ne
-returns-then-is_ne c =
-    let step = fields_more c.args.fields.now c.args.a.now c.args.b.now c.loop-field.field-index c.loop-field-test.true in
-    let decided = ap is_ne (sym c.compare-order.ensures) ∙ sym c.if-is_ne.ensures in
-    c.compare-order.ensures ∙ sym (step ∙ then_decided _ _ decided) ∙ c.loop-field.invariant
 
 pub returns : goal.returns
 returns c =
-    sym
-    (at_drop_all (λ fs. by_fields fs c.args.a.now c.args.b.now) c.args.fields.now c.loop-field.field-index
-    c.loop-field-test.false) ∙
-    c.loop-field.invariant
+    let fields = c.args.fields.now in
+    let a = c.args.a.now in
+    let b = c.args.b.now in
+    let found : option_map (λ order. order) c.find.result ≡ find is_ne (map (by_field a b) fields) =
+    find_from_yields_List is_ne _ _ c.find.result c.find.ensures.ran
+    (YieldsList-from_map _ (by_field a b) (YieldsList-from_slice fields cc) c.map.ensures.closure (λ x r q k. search rules))
+    (λ x r q k. search (rules, tests)) in
+    c.unwrap_or.ensures ∙ ap (λ order. unwrap_or order Equal) (sym (option_map_id _) ∙ found) ∙ first_decides fields a b

@@ -1,19 +1,13 @@
-use Rattle.std.proofs.Common.{sym, ◌∙◌}
-use Rattle.std.proofs.lemmas.List.{at_drop_all}
-use Rattle.std.proofs.lemmas.Bool.{cond-true, cond-false}
-use Rattle.layout.specs.Layout.{first_invalid}
-use Rattle.layout.proofs.Fields.{tests_more}
+use Rattle.std.proofs.Common.{◌≡◌, not, ap, ◌∙◌, rules, tests}
+use Rattle.std.proofs.lemmas.Iterator.{YieldsList-from_slice}
+use Rattle.std.proofs.lemmas.Iterator.Search.{find_from_yields_List}
+use Rattle.std.specs.Option.{option_map}
+use Rattle.layout.proofs.Fields.{first_failed}
 use Rattle.layout.proofs.first_invalid.Goals as goal
 
-pub loop-at-preserved : goal.loop-at-preserved
-loop-at-preserved c =
-    let step = tests_more c.args.tests.now c.loop-at.at-index c.loop-at-test.true in
-    sym (step ∙ cond-true _ _ _ c.if-not-passed.false) ∙ c.loop-at.invariant
-
-pub returns-then-not-passed : goal.returns-then-not-passed
-returns-then-not-passed c =
-    let step = tests_more c.args.tests.now c.loop-at.at-index c.loop-at-test.true in
-    sym (step ∙ cond-false _ _ _ c.if-not-passed.true) ∙ c.loop-at.invariant
-
 pub returns : goal.returns
-returns c = sym (at_drop_all first_invalid c.args.tests.now c.loop-at.at-index c.loop-at-test.false) ∙ c.loop-at.invariant
+returns c =
+    let given = c.args.tests.now in
+    let found = find_from_yields_List (λ test. not test.1) _ _ c.find.result c.find.ensures.ran (YieldsList-from_slice given cc) (λ x r q k. search (rules, tests)) in
+    let offset : c.map.result ≡ option_map (λ test. test.0) (option_map (λ y. y.now) c.find.result) = search rules in
+    offset ∙ ap (option_map (λ test. test.0)) found ∙ first_failed given
