@@ -10,6 +10,7 @@ pub enum StoreFault {
     BufferLength(usize),
 }
 
+// The two columns of the table `coded`: a conversion into a pair of numbers would leave them without names.
 impl StoreFault {
     pub fn number(&self) -> u8
         ensures { result ≡ (coded self.now).0 }
