@@ -3,15 +3,10 @@ use Rattle.std.specs.Prelude.{ℕ, zero, suc, ◌+◌, ◌*◌, max, Bool, not, 
 use Rattle.std.specs.Str.{bytes_eq}
 use Rattle.kinds.specs.Kind.{Kind}
 use Rattle.image.specs.Image.{image}
-use Rattle.image.specs.Messages.{key_of, standing, put}
+use Rattle.image.specs.Messages.{key_of, standing, put_all}
 use Rattle.image.specs.declared.head.Head.{Head}
 use Rattle.image.specs.Reading.{slots, well_formed, every}
 use Rattle.chapter.specs.Answers.{Answer, and_then, need, block_at, head_of}
-
--- messages put into a set one after the other
-abbrev pub put_all : Kind → List (List ℕ) → List (List ℕ) → List (List ℕ)
-put_all kind [] set = set
-put_all kind (m ∷ ms) set = put_all kind ms (put kind m set)
 
 -- no message has a key of the set
 abbrev pub new_keys : Kind → List (List ℕ) → List (List ℕ) → Bool

@@ -14,6 +14,7 @@ pub enum Outcome {
 }
 
 impl Outcome {
+    // The number that is printed and sent for it; as a conversion it would have no name.
     pub fn value(&self) -> u8
         ensures { result ≡ outcome_value self.now }
     {

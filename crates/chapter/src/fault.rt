@@ -33,6 +33,7 @@ pub enum ChapterFault {
     NoLines,
 }
 
+// The two columns of the table `coded`: a conversion into a pair of numbers would leave them without names.
 impl ChapterFault {
     pub fn number(&self) -> u8
         ensures { result ≡ (coded self.now).0 }
@@ -73,6 +74,7 @@ impl ChapterFault {
     }
 }
 
+// Written by hand for `from_gives`: a derive says nothing of which fault comes out.
 impl From<StoreFault> for ChapterFault {
     ghost from_gives = { λ f r. r ≡ Carried f };
 

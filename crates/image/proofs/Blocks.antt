@@ -2,25 +2,25 @@
 use Rattle.std.proofs.Common.{◌≡◌, ℕ, zero, suc, ◌+◌, ◌-◌, ◌*◌, ◌/◌, ◌%◌, ◌^◌, ◌<◌, ◌≤◌, Bool, true, false, cond, eqb, ltb, List, [], ◌∷◌, ◌++◌, map, length, get_or, drop, replicate, count_by, sym, refl, ap, ◌∙◌, ap₂, append_assoc, mul-le-mul_right, div-one, arith, pow_mono}
 use native.Mathlib.Nat.{pow-succ', div-div-eq-div-mul, div-eq_of_lt}
 use lib.Count.{ones, ones_step}
-use lib.Bits.{bit_and, and_mask}
 use Rattle.std.specs.List.{flat_map, AllByRecursion}
 use Rattle.std.proofs.lemmas.List.FromFn.{fill_by_all}
 use Rattle.std.proofs.ByRecursion.{All-append, All-get_or}
 use Rattle.std.proofs.lemmas.List.{length-append, length-map, length-replicate, get_or-map, drop_at, drop-drop}
 use Rattle.std.proofs.lemmas.List.Sums.{sum_by-cons, count_by-le-length}
 use Rattle.std.proofs.lemmas.Bool.{and_parts, leb-true, le-ltb}
-use Rattle.fields.specs.Numbers.{Bytes, le, part}
+use Rattle.fields.specs.Numbers.{Bytes, le, part, filled}
 use Rattle.fields.proofs.Numbers.{bytes_le, number-le}
 use Rattle.fields.proofs.Parts.{part_past, length_joined, part_joined}
 use Rattle.kinds.specs.Kind.{Kind, Lawful}
+use Rattle.tree.proofs.Lists.{all_of}
 use Rattle.tree.specs.Tree.{Section, Node}
-use Rattle.image.specs.Image.{filled, block_of, mask_of, section_record, tree_block}
+use Rattle.image.specs.Image.{block_of, mask_of, section_record, tree_block}
 use Rattle.image.specs.Laws.{Block, section_says, SectionFits, NodeFits, ReadsBack, TreeBlockReadsBack}
 use Rattle.image.specs.Messages.{total_measure}
 use Rattle.image.specs.Reading.{section_fields, mask, section_count, slot, section_at, sections_of}
 use Rattle.image.specs.Settings.{alpha_fits}
 
-pub length-filled : {X : Type 0} (x : X) (n : ℕ) (xs : List X) → length xs ≤ n → length (filled x n xs) ≡ n
+pub length-filled : {X : Type 0} (x : X) (n : ℕ) (xs : List X) → length xs ≤ n → length (filled n x xs) ≡ n
 length-filled x n xs h = omega (arith, length-append xs (replicate (n - length xs) x), length-replicate (n - length xs) x)
 
 pub bytes_zeros : (n : ℕ) → Bytes (replicate n 0)
@@ -72,10 +72,6 @@ bytes_joined : {X : Type 0} (f : X → List ℕ) (xs : List X) → AllByRecursio
 bytes_joined f [] h = tt
 bytes_joined f (x ∷ xs) h = All-append _ (f x) (flat_map f xs) h.0 (bytes_joined f xs h.1)
 
-every_one : {X : Type 0} {P : X → Type 0} (h : (x : X) → P x) (xs : List X) → AllByRecursion P xs
-every_one h [] = tt
-every_one h (x ∷ xs) = (h x, every_one h xs)
-
 bytes_append : (xs ys : List ℕ) → Bytes xs → Bytes ys → Bytes (xs ++ ys)
 bytes_append xs ys = All-append (λ b. b < 256) xs ys
 
@@ -120,7 +116,7 @@ module _ (kind : Kind) (alpha : ℕ) (node : Node (List ℕ)) (lawful : Lawful k
   zeros = replicate (256 - length (0 ∷ 0 ∷ 0 ∷ 0 ∷ 0 ∷ 0 ∷ 0 ∷ 0 ∷ laid)) 0
 
   record_long : AllByRecursion (λ s. length (section_record kind s) ≡ 8) node.sections
-  record_long = every_one (λ s. refl) node.sections
+  record_long = all_of (λ s. refl) node.sections
 
   slots_long : length slot_bytes ≡ alpha * kind.width
   slots_long =
@@ -190,7 +186,7 @@ module _ (kind : Kind) (alpha : ℕ) (node : Node (List ℕ)) (lawful : Lawful k
   laid_bytes =
       bytes_append slot_bytes records
       (bytes_append message_bytes unused (bytes_joined (λ m. m) node.entries fits.small) (bytes_zeros (alpha * kind.width - length message_bytes)))
-      (bytes_joined (section_record kind) node.sections (every_one (record_bytes_lem kind) node.sections))
+      (bytes_joined (section_record kind) node.sections (all_of (record_bytes_lem kind) node.sections))
 
   node_block : Block (tree_block kind alpha node)
   node_block =
@@ -204,10 +200,7 @@ tree_block_reads_back kind alpha node lawful fit fits =
     let r = room kind.width alpha fit in
     record { block = node_block kind alpha node lawful fits r; reads_back = node_reads_back kind alpha node lawful fits r }
 
--- a bit of the mask by a shift, and past its sixteen bits
-pub shifted_bit : (m i : ℕ) → eqb (bit_and (m / 2 ^ i) 1) 1 ≡ eqb (m / 2 ^ i % 2) 1
-shifted_bit m i = ap (λ n. eqb n 1) (and_mask (m / 2 ^ i) 1)
-
+-- a bit of the mask past its sixteen
 pub no_bit : (m i : ℕ) → m < 65536 → 16 ≤ i → ltb i 16 ≡ eqb (m / 2 ^ i % 2) 1
 no_bit m i small past =
     let none : m / 2 ^ i ≡ 0 = div-eq_of_lt (omega (arith, pow_mono past)) in

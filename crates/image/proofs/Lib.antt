@@ -4,6 +4,5 @@ pub mod Drawn
 pub mod Images
 pub mod Loops
 pub mod Rising
-pub mod Seeking
-pub mod Separating
-pub mod Summing
+pub mod Below
+pub mod Stepping

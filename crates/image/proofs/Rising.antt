@@ -1,37 +1,40 @@
--- Keys of a list that is made from a function of the index, compared one after the other. Assumes nothing.
-use Rattle.std.proofs.Common.{◌≡◌, ℕ, ◌+◌, ◌<◌, ◌≤◌, true, false, ◌&&◌, List, map, drop, sym, ap, ◌∙◌, ⊎_elim, arith}
-use Rattle.std.specs.List.{range_with_len}
+-- Keys compared one after the other, by a closure that is called at neighbours. Assumes nothing.
+use Rattle.std.proofs.Common.{◌≡◌, ℕ, Bool, true, false, ◌&&◌, List, [], ◌∷◌, None, Some, Option, MatchOption, Bor, inl, inr, sym, ap, ◌∙◌, subst}
+use denote.Param.Members.{Mut}
+use Rattle.std.specs.Fn.{CalledAtTwo}
+use Rattle.std.specs.Iterator.{YieldsFirstRef, YieldsThen}
+use Rattle.std.specs.Iterator.Order.{ActsAsAtTwo, ChecksNeighbours, OrderTurn}
+use Rattle.std.specs.List.{FoldsTo}
 use Rattle.std.specs.Ordering.{is_lt}
-use Rattle.std.proofs.lemmas.List.FromFn.{length-map-range_with_len}
-use Rattle.std.proofs.lemmas.List.{nil_from_length}
-use Rattle.std.proofs.lemmas.Bool.{cases_lt}
 use Rattle.kinds.specs.Kind.{Kind}
 use Rattle.image.specs.Messages.{key_of}
 use Rattle.image.specs.Reading.{keys_rise, keys_rise_from}
-use Rattle.image.proofs.Loops.{from_more, from_all}
 
-module _ (kind : Kind) (f : ℕ → List ℕ) (n : ℕ) where
-  abbrev all : List (List ℕ)
-  all = map f (range_with_len 0 n)
+module _ (kind : Kind) {S F : Type 0} (rest : S → List (List ℕ)) (g : Mut F (Bor (Bor (List ℕ)) × (Bor (Bor (List ℕ)) × Unit {0})) Bool) (f : F) where
+  -- the key of the one message is below that of the other
+  abbrev pub keys_in_order : Bor (List ℕ) → Bor (List ℕ) → Bool
+  keys_in_order m l = is_lt (kind.key_order (key_of kind m.now) (key_of kind l.now))
 
-  -- what is left after the element `last` rises as all do, if there is any
-  pub record Rises (last : List ℕ) (i : ℕ) : Type 0 where
-    pub is : 1 ≤ n → keys_rise_from kind last (drop i all) ≡ keys_rise kind all
+  module _ (acts : ActsAsAtTwo g f keys_in_order) (r : Bool) where
+    -- after the message m, as far as the calls went
+    rise_from : (m : Bor (List ℕ)) (ms : List (Bor (List ℕ))) (s : S) (o : Option (Bor (List ℕ))) (u : S) (q : F × Bor (List ℕ))
+        → YieldsThen (YieldsFirstRef rest) s ms o u
+        → FoldsTo {P = F × Bor (List ℕ)} (OrderTurn g) (f, m) ms q
+        → MatchOption o (r ≡ true) (λ l. (r ≡ false) × ((h : F) × CalledAtTwo g q.0 q.1 l false h))
+        → r ≡ keys_rise_from kind m.now (rest s)
+    rise_from m [] s None u q run turns answer = answer ∙ sym (ap (keys_rise_from kind m.now) (ap rest run.1 ∙ run.2.0))
+    rise_from m [] s (Some l) u q run turns answer =
+        let called = subst (λ p. CalledAtTwo g p.0 p.1 l false answer.1.0) (sym turns) answer.1.1 in
+        answer.0
+        ∙ ap (λ t. t && keys_rise_from kind l.now (rest u)) (acts m l false answer.1.0 called).1
+        ∙ sym (ap (keys_rise_from kind m.now) (ap rest run.1 ∙ run.2))
+    rise_from m (l ∷ ls) s o u q run turns answer =
+        let kept = acts m l true turns.0.0 turns.1.0 in
+        let same : turns.0 ≡ (f, l) = λ i. (kept.0 i, turns.1.1 i) in
+        rise_from l ls run.1.0 o u q (run.0, run.1.2, run.2) (subst (λ p. FoldsTo (OrderTurn g) p ls q) same turns.2) answer
+        ∙ ap (λ t. t && keys_rise_from kind l.now (rest run.1.0)) kept.1
+        ∙ sym (ap (keys_rise_from kind m.now) run.1.1)
 
-  pub rises_first : (last : List ℕ) → last ≡ f 0 → Rises last 1
-  rises_first last first = record { is = λ some. ap (λ m. keys_rise_from kind m (drop 1 all)) first ∙ sym (from_more f n (keys_rise kind) 0 some) }
-
-  module _ {last : List ℕ} {i : ℕ} (r : Rises last i) (lt : i < n) where
-    here : (next : List ℕ) → next ≡ f i → (is_lt (kind.key_order (key_of kind last) (key_of kind next)) && keys_rise_from kind next (drop (i + 1) all)) ≡ keys_rise kind all
-    here next is = ap (λ m. is_lt (kind.key_order (key_of kind last) (key_of kind m)) && keys_rise_from kind m (drop (i + 1) all)) is ∙ sym (from_more f n (keys_rise_from kind last) i lt) ∙ r.is (omega arith)
-
-    pub rises_more : (next : List ℕ) → next ≡ f i → is_lt (kind.key_order (key_of kind last) (key_of kind next)) ≡ true → Rises next (i + 1)
-    rises_more next is below = record { is = λ some. ap (λ t. t && keys_rise_from kind next (drop (i + 1) all)) (sym below) ∙ here next is }
-
-    pub rises_not : (next : List ℕ) → next ≡ f i → is_lt (kind.key_order (key_of kind last) (key_of kind next)) ≡ false → false ≡ keys_rise kind all
-    rises_not next is not-below = ap (λ t. t && keys_rise_from kind next (drop (i + 1) all)) (sym not-below) ∙ here next is
-
-  pub rises_all : {last : List ℕ} {i : ℕ} → Rises last i → n ≤ i → true ≡ keys_rise kind all
-  rises_all {last} {i} r past =
-      let long = length-map-range_with_len f 0 n in
-      ⊎_elim (λ some. sym (from_all f n (keys_rise_from kind last) i past) ∙ r.is some) (λ none. sym (ap (keys_rise kind) (nil_from_length all (omega arith)))) (cases_lt 0 n)
+    pub rising : (s : S) → ChecksNeighbours g (YieldsFirstRef rest) s f r → r ≡ keys_rise kind (rest s)
+    rising s (inl none) = none.1 ∙ sym (ap (keys_rise kind) (ap rest none.0.1.1 ∙ none.0.1.2.0))
+    rising s (inr (m, ms, o, u, q, run, turns, answer)) = rise_from m ms run.1.0 o u q (run.0, run.1.2, run.2) turns answer ∙ sym (ap (keys_rise kind) run.1.1)

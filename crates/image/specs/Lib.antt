@@ -5,4 +5,5 @@ pub mod Reading
 pub mod Laws
 pub mod Coded
 pub mod View
+pub mod Parts
 pub mod Walk

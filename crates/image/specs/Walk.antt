@@ -34,7 +34,7 @@ module _ (kind : Kind) (key : List ℕ) where
   -- the measure of the messages that are below the key
   abbrev pub measure_below : List (List ℕ) → ℕ
   measure_below [] = 0
-  measure_below (m ∷ ms) = cond (is_lt (kind.key_order (key_of kind m) key)) (kind.measured m) 0 + measure_below ms
+  measure_below (m ∷ ms) = measure_if_below m + measure_below ms
 
   -- what a block has before the key: its entries below it, and the sections left of the one that the key belongs to
   abbrev pub measure_before : (alpha : ℕ) → List ℕ → ℕ

@@ -1,13 +1,16 @@
 // A tree block, read from any bytes.
-ghost use Rattle.std.specs.Prelude.{◌≡◌, ◌*◌, ◌^◌, ◌≤◌, take, sum_by, nat_lt};
+ghost use Rattle.std.specs.Prelude.{◌≡◌, ◌*◌, ◌==◌, ◌^◌, ◌≤◌, None, Some, cond, length, take, sum_by, nat_lt};
 ghost use Rattle.std.specs.Option.{option_map};
+ghost use Rattle.std.specs.Ordering.{is_lt};
 ghost use Rattle.image.specs.Messages.{key_of};
+ghost use Rattle.image.specs.Parts.{messages_to_come, sections_to_come};
 ghost use Rattle.image.specs.Reading.{active_at, entry_count, every, keys_rise, mask as mask_in, message_valid, of_kind, section_at, section_count, section_sound, sections_of, slot as slot_in, slots, well_formed};
-ghost use Rattle.image.specs.Walk.{in_block, measure_before, measure_below, measure_if_below, next_block, section_for, separator_below};
+ghost use Rattle.image.specs.Walk.{in_block, measure_before, measure_below, next_block, section_for, separator_below};
 ghost use Rattle.image.specs.View.{alpha_of, bytes_of};
 
+use crate::parts::{Sections, Slots};
 use crate::section::SectionFields;
-use fields::{byte_at, piece_at, slice_at, u16_at, u32_at};
+use fields::{LittleEndian, byte_at, piece_at, slice_at};
 use kinds::EntryKind;
 use std::cmp::Ordering;
 use std::marker::PhantomData;
@@ -42,7 +45,7 @@ impl<'a, K: EntryKind> TreeBlock<'a, K> {
     pub fn mask(&self) -> u16
         ensures { result ≡ mask_in (bytes_of self.now) }
     {
-        u16_at(self.bytes, 2)
+        u16::read_at(self.bytes, 2)
     }
 
     // The number of sections: the mask's ones are the active separators, one fewer.
@@ -75,9 +78,31 @@ impl<'a, K: EntryKind> TreeBlock<'a, K> {
         let after_slots = 8 + usize::from(self.alpha) * K::message_width();
         let record = piece_at(self.bytes, after_slots, 8, i);
         SectionFields {
-            number: u16_at(record, 0),
-            weight: u16_at(record, 2),
-            measure: u32_at(record, 4),
+            number: u16::read_at(record, 0),
+            weight: u16::read_at(record, 2),
+            measure: u32::read_at(record, 4),
+        }
+    }
+
+    // The messages of the entries, in the order of their slots.
+    pub fn slots(&self) -> Slots<'a, K>
+        ensures messages { messages_to_come K.kind result ≡ slots K.kind (bytes_of self.now) }
+        ensures few { length (slots K.kind (bytes_of self.now)) ≤ 255 }
+    {
+        Slots {
+            block: *self,
+            places: 0..self.entries(),
+        }
+    }
+
+    // What the records of the sections say, in order.
+    pub fn sections(&self) -> Sections<'a, K>
+        ensures sections { sections_to_come K.kind result ≡ sections_of K.kind (alpha_of self.now) (bytes_of self.now) }
+        ensures few { length (sections_of K.kind (alpha_of self.now) (bytes_of self.now)) ≤ 17 }
+    {
+        Sections {
+            block: *self,
+            places: 0..self.section_count(),
         }
     }
 
@@ -85,8 +110,7 @@ impl<'a, K: EntryKind> TreeBlock<'a, K> {
     pub fn find(&self, key: &[u8]) -> Option<&'a [u8]>
         ensures { option_map (λ x. x.now) result ≡ in_block K.kind key.now (bytes_of self.now) }
     {
-        for i in 0..self.entries() {
-            let message = self.slot(i);
+        for message in self.slots() {
             match K::compare_keys(key_of::<K>(message), key) {
                 Ordering::Less => {}
                 Ordering::Equal => return Some(message),
@@ -100,49 +124,34 @@ impl<'a, K: EntryKind> TreeBlock<'a, K> {
     fn separates(&self, i: usize, key: &[u8]) -> bool
         ensures { result ≡ separator_below K.kind key.now (bytes_of self.now) i (slot_in K.kind (bytes_of self.now) i) }
     {
-        self.is_active(i) && K::compare_keys(key_of::<K>(self.slot(i)), key).is_lt()
+        self.is_active(i) && is_below::<K>(self.slot(i), key)
     }
 
     // The section that the key belongs to, from 0: so many active separators are below it.
     pub fn section_for(&self, key: &[u8]) -> usize
         ensures { result ≡ section_for K.kind key.now (bytes_of self.now) }
     {
-        let mut below = 0;
-        for i in 0..self.entries() {
-            below += usize::from(self.separates(i, key));
-        }
-        below
+        (0..self.entries())
+            .filter(|i| self.separates(*i, key))
+            .count()
     }
 
-    // The number of the block of that section, 0 if it has none.
-    pub fn next_block(&self, key: &[u8]) -> u16
-        ensures { result ≡ next_block K.kind key.now (alpha_of self.now) (bytes_of self.now) }
+    // The number of the block of that section, if it has one.
+    pub fn next_block(&self, key: &[u8]) -> Option<u16>
+        ensures { let number = next_block K.kind key.now (alpha_of self.now) (bytes_of self.now) in
+            result ≡ cond (number == 0) None (Some number) }
     {
-        self.section(self.section_for(key)).number
-    }
-
-    // The measure of the message in slot i, or 0 unless it is below the key.
-    fn measure_if_below(&self, i: usize, key: &[u8]) -> u16
-        ensures { result ≡ measure_if_below K.kind key.now (slot_in K.kind (bytes_of self.now) i) }
-    {
-        let message = self.slot(i);
-        if K::compare_keys(key_of::<K>(message), key).is_lt() {
-            K::measure(message)
-        } else {
-            0
-        }
+        self.section(self.section_for(key)).block()
     }
 
     // The measure of the entries below the key.
-    fn entries_below(&self, key: &[u8]) -> u64
-        ensures value { result ≡ measure_below K.kind key.now (slots K.kind (bytes_of self.now)) }
-        ensures few { result ≤ 255 * 65535 }
+    fn entries_below(&self, key: &[u8]) -> u32
+        ensures { result ≡ measure_below K.kind key.now (slots K.kind (bytes_of self.now)) }
     {
-        let mut sum = 0;
-        for i in 0..self.entries() {
-            sum += u64::from(self.measure_if_below(i, key));
-        }
-        sum
+        self.slots()
+            .filter(|message| is_below::<K>(message, key))
+            .map(|message| u32::from(K::measure(message)))
+            .sum()
     }
 
     // The measure of the first sections, so many of them or all.
@@ -150,54 +159,37 @@ impl<'a, K: EntryKind> TreeBlock<'a, K> {
         ensures value { result ≡ sum_by (λ s. s.measure) (take end (sections_of K.kind (alpha_of self.now) (bytes_of self.now))) }
         ensures few { result ≤ 17 * 4294967295 }
     {
-        let mut sum = 0;
-        for i in 0..end.min(self.section_count()) {
-            sum += u64::from(self.section(i).measure);
-        }
-        sum
+        self.sections()
+            .take(end)
+            .map(|section| u64::from(section.measure))
+            .sum()
     }
 
     // What the block has before the key: its entries below it, and the sections left of the one that the key belongs to.
     pub fn measure_before(&self, key: &[u8]) -> u64
         ensures { result ≡ measure_before K.kind key.now (alpha_of self.now) (bytes_of self.now) }
     {
-        self.entries_below(key) + self.sections_before(self.section_for(key))
+        u64::from(self.entries_below(key)) + self.sections_before(self.section_for(key))
     }
 
     fn messages_valid(&self) -> bool
         ensures { result ≡ every (message_valid K.kind) (slots K.kind (bytes_of self.now)) }
     {
-        for i in 0..self.entries() {
-            if K::invalid_at(self.slot(i)).is_some() {
-                return false;
-            }
-        }
-        true
+        self.slots().all(|message| K::invalid_at(message).is_none())
     }
 
     fn sections_sound(&self, tree_blocks: usize, number: usize) -> bool
         ensures { result ≡ every (section_sound tree_blocks number) (sections_of K.kind (alpha_of self.now) (bytes_of self.now)) }
     {
-        for i in 0..self.section_count() {
-            if !self.section(i).is_sound(tree_blocks, number) {
-                return false;
-            }
-        }
-        true
+        self.sections()
+            .all(|section| section.is_sound(tree_blocks, number))
     }
 
     fn keys_rise(&self) -> bool
         ensures { result ≡ keys_rise K.kind (slots K.kind (bytes_of self.now)) }
     {
-        let mut last = self.slot(0);
-        for i in 1..self.entries() {
-            let next = self.slot(i);
-            if !K::compare_keys(key_of::<K>(last), key_of::<K>(next)).is_lt() {
-                return false;
-            }
-            last = next;
-        }
-        true
+        self.slots()
+            .is_sorted_by(|last, next| is_below::<K>(last, key_of::<K>(next)))
     }
 
     // Block `number` of a chapter of so many tree blocks may stand in its tree.
@@ -215,9 +207,7 @@ impl<'a, K: EntryKind> TreeBlock<'a, K> {
     fn is_of_kind(&self) -> bool
         ensures { result ≡ of_kind K.kind (alpha_of self.now) (bytes_of self.now) }
     {
-        let entries = self.entries();
-        1 <= entries
-            && entries <= usize::from(self.alpha)
+        (1..=usize::from(self.alpha)).contains(&self.entries())
             && byte_at(self.bytes, 1) == K::kind_number()
     }
 
@@ -236,4 +226,11 @@ pub fn key_of<K: EntryKind>(message: &[u8]) -> &[u8]
     ensures { result.now ≡ key_of K.kind message.now }
 {
     slice_at(message, 0, K::key_width())
+}
+
+// The message's key is below the key.
+fn is_below<K: EntryKind>(message: &[u8], key: &[u8]) -> bool
+    ensures { result ≡ is_lt (K.kind.key_order (key_of K.kind message.now) key.now) }
+{
+    K::compare_keys(key_of::<K>(message), key).is_lt()
 }

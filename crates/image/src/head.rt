@@ -3,7 +3,7 @@ ghost use Rattle.std.specs.Prelude.{◌≡◌};
 ghost use Rattle.image.specs.Reading.{head_fields, head_right, head_sound, is_chapter, read_head};
 
 use crate::settings::Settings;
-use fields::{byte_at, slice_at, u16_at, u32_at};
+use fields::{LittleEndian, byte_at, slice_at};
 use kinds::EntryKind;
 
 #[derive(Clone, Copy, PartialEq, Eq, Debug)]
@@ -30,18 +30,18 @@ fn head_fields(block: &[u8]) -> Head
 {
     let settings = Settings {
         alpha: usize::from(byte_at(block, 6)),
-        rho: usize::from(u16_at(block, 7)),
-        capacity: usize::from(u16_at(block, 9)),
+        rho: usize::from(u16::read_at(block, 7)),
+        capacity: usize::from(u16::read_at(block, 9)),
     };
     let counts = Counts {
-        entries: usize::from(u16_at(block, 11)),
-        blocks: usize::from(u16_at(block, 13)),
-        measure: u32_at(block, 15),
+        entries: usize::from(u16::read_at(block, 11)),
+        blocks: usize::from(u16::read_at(block, 13)),
+        measure: u32::read_at(block, 15),
     };
     Head {
         settings,
         counts,
-        chapter: u32_at(block, 19),
+        chapter: u32::read_at(block, 19),
     }
 }
 
@@ -49,7 +49,7 @@ fn head_fields(block: &[u8]) -> Head
 fn is_chapter(block: &[u8]) -> bool
     ensures { result ≡ is_chapter block.now }
 {
-    slice_at(block, 0, 3) == b"GAL".as_slice() && u16_at(block, 3) == VERSION
+    slice_at(block, 0, 3) == MARK.as_slice() && u16::read_at(block, 3) == VERSION
 }
 
 // The block is the head of a chapter of the kind.
@@ -74,10 +74,6 @@ impl Head {
     pub fn read<K: EntryKind>(block: &[u8]) -> Option<Head>
         ensures { result ≡ read_head K.kind block.now }
     {
-        if is_head::<K>(block) {
-            Some(head_fields(block))
-        } else {
-            None
-        }
+        is_head::<K>(block).then(|| head_fields(block))
     }
 }

@@ -3,6 +3,7 @@
 
 mod block;
 mod head;
+mod parts;
 mod section;
 mod settings;
 
@@ -10,6 +11,7 @@ ghost use Rattle.image.specs.Laws.{HeadReadsBack, TreeBlockReadsBack, ImageReads
 
 pub use block::{TreeBlock, key_of};
 pub use head::{Counts, Head, MARK, VERSION};
+pub use parts::{Sections, Slots};
 pub use section::SectionFields;
 pub use settings::{Setting, Settings, alpha_fits};
 

@@ -31,17 +31,14 @@ const BLOCK_SIZE: usize = 256;
 pub fn alpha_fits(width: usize, alpha: usize) -> bool
     ensures { result ≡ alpha_fits width alpha }
 {
-    if alpha < 1 || alpha > MOST_IN_BLOCK {
-        return false;
-    }
     let slots = alpha.saturating_mul(width);
-    slots.saturating_add(8 + 8 * (alpha + 1)) <= BLOCK_SIZE
+    (1..=MOST_IN_BLOCK).contains(&alpha) && slots.saturating_add(8 + 8 * (alpha + 1)) <= BLOCK_SIZE
 }
 
 fn up_to_2000(n: usize) -> bool
     ensures { result ≡ up_to2000 n }
 {
-    1 <= n && n <= MOST
+    (1..=MOST).contains(&n)
 }
 
 impl Settings {
@@ -65,6 +62,6 @@ impl Settings {
     pub fn fit(&self, width: usize) -> bool
         ensures { result ≡ settings_fit width self.now }
     {
-        alpha_fits(width, self.alpha) && up_to_2000(self.rho) && up_to_2000(self.capacity)
+        self.out_of_limits(width).is_none()
     }
 }

@@ -48,12 +48,15 @@ const MALFORMED: [(usize, u8); 9] = [
 
 // The bytes with zeros after them up to a block, and the byte at an offset replaced.
 fn block(heap: Global, bytes: &[u8], at: usize, byte: u8) -> Result<Vec<u8>, AllocError> {
-    let mut block = Vec::new(heap);
-    for i in 0..256 {
-        let old = fields::byte_at(bytes, i);
-        block.push(if i == at { byte } else { old })?;
-    }
-    Ok(block)
+    (0..256)
+        .map(|i| {
+            if i == at {
+                byte
+            } else {
+                fields::byte_at(bytes, i)
+            }
+        })
+        .collect(heap)
 }
 
 #[test]
@@ -81,9 +84,14 @@ fn roots(rt: HostRuntime) -> Result<(), Fail> {
     assert!(rt;
         root.section(2).number == 3 && root.section(2).weight == 2 && root.section(2).measure == 149
     );
+    assert!(rt; root.slots().count() == 3 && root.sections().count() == 4);
     assert!(rt; root.find(&[10, 0, 0, 0, 2]).is_some() && root.find(&[9, 0, 0, 0, 2]).is_none());
-    assert!(rt; root.section_for(&[9, 0, 0, 0, 2]) == 1 && root.next_block(&[9, 0, 0, 0, 2]) == 2);
-    assert!(rt; root.section_for(&[7, 0, 0, 0, 1]) == 0 && root.next_block(&[40, 0, 0, 0, 1]) == 4);
+    assert!(rt;
+        root.section_for(&[9, 0, 0, 0, 2]) == 1 && root.next_block(&[9, 0, 0, 0, 2]) == Some(2)
+    );
+    assert!(rt;
+        root.section_for(&[7, 0, 0, 0, 1]) == 0 && root.next_block(&[40, 0, 0, 0, 1]) == Some(4)
+    );
     for (at, byte) in MALFORMED {
         let bad = block(rt.alloc(), &ROOT, at, byte)?;
         assert!(rt; !TreeBlock::<Paragraphs>::new(bad.as_slice(), 3).is_well_formed(4, 1));

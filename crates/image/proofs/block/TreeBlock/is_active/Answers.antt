@@ -1,9 +1,6 @@
 use Rattle.std.proofs.Common.{◌/◌, ◌%◌, ◌^◌, eqb, ap, ◌∙◌}
-use Rattle.image.proofs.Blocks.{shifted_bit, no_bit}
+use Rattle.image.proofs.Blocks.{no_bit}
 use Rattle.image.proofs.block.TreeBlock.is_active.Goals as goal
-
-pub returns-then-i-lt16 : goal.returns-then-i-lt16
-returns-then-i-lt16 g c = shifted_bit c.mask-mask.result c.args.i ∙ ap (λ m. eqb (m / 2 ^ c.args.i % 2) 1) c.mask-mask.ensures
 
 pub returns-else-i-lt16 : goal.returns-else-i-lt16
 returns-else-i-lt16 g c =

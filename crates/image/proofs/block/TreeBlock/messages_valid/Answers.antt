@@ -1,21 +1,16 @@
-use Rattle.std.proofs.Common.{not, is_some, sym, refl, ap, ◌∙◌, arith}
-use Rattle.image.proofs.Loops.{passed_more, passed-not, passed_all}
+use Rattle.std.proofs.Common.{sym, ◌∙◌, rules}
+use borrow.Author.Tests.{tests}
+use Rattle.std.proofs.lemmas.Iterator.Consumers.{YieldsList-from_first}
+use Rattle.std.proofs.lemmas.Iterator.Search.{all_from_yields_List}
+use Rattle.image.specs.Parts.{messages_to_come}
+use Rattle.image.specs.Reading.{message_valid, slots}
+use Rattle.image.specs.View.{bytes_of}
+use Rattle.image.proofs.Loops.{every_is}
 use Rattle.image.proofs.block.TreeBlock.messages_valid.Goals as goal
 
-pub loop-i-init : goal.loop-i-init
-loop-i-init g c = record { is = refl }
-
-pub returns-then-is_some : goal.returns-then-is_some
-returns-then-is_some g c =
-    let read = sym c.slot.ensures in
-    let asked = ap (λ m. g.K.EntryKind.kind.invalid m) read ∙ sym c.invalid_at.ensures in
-    passed-not c.loop-i.invariant (omega (arith, c.entries-i-end.ensures.count)) (ap (λ o. not (is_some o)) asked ∙ ap not (sym c.if-is_some.ensures))
-
-pub loop-i-preserved : goal.loop-i-preserved
-loop-i-preserved g c =
-    let read = sym c.slot.ensures in
-    let asked = ap (λ m. g.K.EntryKind.kind.invalid m) read ∙ sym c.invalid_at.ensures in
-    passed_more c.loop-i.invariant (omega (arith, c.entries-i-end.ensures.count)) (ap (λ o. not (is_some o)) asked ∙ ap not (sym c.if-is_some.ensures))
-
 pub returns : goal.returns
-returns g c = passed_all c.loop-i.invariant (omega (arith, c.entries-i-end.ensures.count))
+returns g c =
+    let kind = g.K.EntryKind.kind in
+    let messages = slots kind (bytes_of c.args.self.now) in
+    all_from_yields_List (message_valid kind) c.all.new.self _ c.all.result c.all.ensures.ran (YieldsList-from_first (λ m. m.now) (messages_to_come kind) messages c.slots.ensures.messages) (λ m b q k. search (rules, tests))
+    ∙ sym (every_is (message_valid kind) messages)

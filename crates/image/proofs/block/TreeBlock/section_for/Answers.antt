@@ -1,19 +1,18 @@
-use Rattle.std.proofs.Common.{cond, refl, ap, ◌∙◌, arith}
-use Rattle.image.proofs.Summing.{flag_is, summing_more, summing_all}
+use Rattle.std.proofs.Common.{◌∙◌, rules, arith}
+use borrow.Author.Tests.{tests}
+use Rattle.std.proofs.lemmas.Iterator.{YieldsList-from_range}
+use Rattle.std.proofs.lemmas.Iterator.Consumers.{YieldsList-from_filter, count_from_yields_List}
+use Rattle.image.specs.Reading.{entry_count, slot}
+use Rattle.image.specs.View.{bytes_of}
+use Rattle.image.specs.Walk.{separator_below}
+use Rattle.image.proofs.Below.{separators_counted}
 use Rattle.image.proofs.block.TreeBlock.section_for.Goals as goal
 
-pub loop-i-init : goal.loop-i-init
-loop-i-init g c = record { few = omega arith; is = omega arith }
-
-pub overflow_add-below : goal.overflow_add-below
-overflow_add-below g c = omega (arith, c.from-below.ensures, (flag_is c.separates.result).1)
-
-pub loop-i-preserved : goal.loop-i-preserved
-loop-i-preserved g c =
-    let flag = flag_is c.separates.result in
-    summing_more c.loop-i.invariant c.from-below.result (omega (arith, c.entries-i-end.ensures.count))
-    (c.from-below.ensures ∙ flag.0 ∙ ap (λ b. cond b 1 0) c.separates.ensures) (λ rest. refl)
-    (omega (arith, c.from-below.ensures, flag.1))
-
 pub returns : goal.returns
-returns g c = summing_all c.loop-i.invariant (omega (arith, c.entries-i-end.ensures.count)) refl
+returns g c =
+    let kind = g.K.EntryKind.kind in
+    let bytes = bytes_of c.args.self.now in
+    let n = entry_count bytes in
+    let below = λ (i : _). separator_below kind c.args.key.now bytes i (slot kind bytes i) in
+    count_from_yields_List c.filter.result c.count.result c.count.ensures.ran (YieldsList-from_filter _ below (YieldsList-from_range 0 n n (cc) (omega arith)) c.filter.ensures.closure (λ i b q k. search (rules, tests)))
+    ∙ separators_counted kind c.args.key.now bytes (slot kind bytes) 0 n

@@ -1,18 +1,17 @@
-use Rattle.std.proofs.Common.{sym, refl, ap, ◌∙◌, arith}
-use Rattle.image.specs.Reading.{section_sound}
-use Rattle.image.proofs.Loops.{passed_more, passed-not, passed_all}
+use Rattle.std.proofs.Common.{sym, ◌∙◌, rules}
+use borrow.Author.Tests.{tests}
+use Rattle.std.proofs.lemmas.Iterator.Consumers.{YieldsList-from_first}
+use Rattle.std.proofs.lemmas.Iterator.Search.{all_from_yields_List}
+use Rattle.image.specs.Parts.{sections_to_come}
+use Rattle.image.specs.Reading.{section_sound, sections_of}
+use Rattle.image.specs.View.{alpha_of, bytes_of}
+use Rattle.image.proofs.Loops.{every_is}
 use Rattle.image.proofs.block.TreeBlock.sections_sound.Goals as goal
 
-pub loop-i-init : goal.loop-i-init
-loop-i-init g c = record { is = refl }
-
-pub returns-then-not-is_sound : goal.returns-then-not-is_sound
-returns-then-not-is_sound g c =
-    passed-not c.loop-i.invariant (omega (arith, c.section_count-i-end.ensures.count)) (ap (section_sound _ _) (sym c.section.ensures) ∙ sym c.if-not-is_sound.ensures)
-
-pub loop-i-preserved : goal.loop-i-preserved
-loop-i-preserved g c =
-    passed_more c.loop-i.invariant (omega (arith, c.section_count-i-end.ensures.count)) (ap (section_sound _ _) (sym c.section.ensures) ∙ sym c.if-not-is_sound.ensures)
-
 pub returns : goal.returns
-returns g c = passed_all c.loop-i.invariant (omega (arith, c.section_count-i-end.ensures.count))
+returns g c =
+    let kind = g.K.EntryKind.kind in
+    let sections = sections_of kind (alpha_of c.args.self.now) (bytes_of c.args.self.now) in
+    let sound = section_sound c.args.tree_blocks c.args.number in
+    all_from_yields_List sound c.all.new.self _ c.all.result c.all.ensures.ran (YieldsList-from_first (λ s. s) (sections_to_come kind) sections c.sections.ensures.sections) (λ s b q k. search (rules, tests))
+    ∙ sym (every_is sound sections)
