@@ -1,64 +1,83 @@
 -- A block's entries and mask, filled in from the left. Assumes nothing.
 use Rattle.std.proofs.Common.{◌≡◌, ℕ, suc, ◌+◌, ◌-◌, ◌*◌, ◌^◌, ◌<◌, Bool, true, false, cond, List, [], ◌∷◌, ◌++◌, map, length, get_or, take, drop, set, replicate, filter, sym, refl, ap, ◌∙◌, one-mul, pow-suc, arith}
 use lib.Bits.{bit_or}
-use lib.Count.{ones, ones_in, ones_cat}
+use lib.Count.{ones}
+use lib.Lanes.{mask_l as mask_of}
 use Rattle.std.specs.List.{AllByRecursion}
 use Rattle.std.proofs.lemmas.Nat.{or_shifted, or_comm}
 use Rattle.std.proofs.lemmas.List.Elements.{filter-append}
-use Rattle.std.proofs.lemmas.List.{append-nil, append_assoc, length-append, length_push, length-map, map_push, set_at, take-append-drop, drop_more}
-use Rattle.std.proofs.lemmas.Bool.{both_ways}
-use Rattle.planner.specs.Rows.{filled, bits}
+use Rattle.std.proofs.lemmas.Simd.{mask_l-lt, ones-mask_l}
+use Rattle.std.proofs.lemmas.List.{append-nil, append_assoc, length-append, length_push, map_push, set_at, take-append-drop, drop_more}
+use Rattle.std.proofs.lemmas.List.Sums.{length-filter}
+use Rattle.fields.specs.Numbers.{filled}
+use Rattle.tree.specs.Tree.{Node}
+use Rattle.tree.proofs.Lists.{count_by_kept}
+use Rattle.planner.specs.declared.row.Row.{Row}
+use Rattle.planner.specs.Rows.{no_section, section_row, row_of}
+use Rattle.planner.specs.Steps.{with_entry}
 
 filled_more : {X : Type 0} (n : ℕ) (blank : X) (ys : List X) (x : X) → length ys < n → set (filled n blank ys) (length ys) x ≡ filled n blank (ys ++ x ∷ [])
 filled_more n blank ys x less =
     let left : n - length ys ≡ suc (n - length (ys ++ x ∷ [])) = omega (arith, length_push ys x) in
     rw left (set_at ys blank (replicate (n - length (ys ++ x ∷ [])) blank) x (length ys) refl ∙ sym (append_assoc ys (x ∷ []) _))
 
-bits_push : (bs : List Bool) (b : Bool) → bits (bs ++ b ∷ []) ≡ bits bs + cond b (2 ^ length bs) 0
-bits_push [] true = refl
-bits_push [] false = refl
-bits_push (a ∷ bs) b = go b (bits_push bs b)
+mask_push : (bs : List Bool) (b : Bool) → mask_of (bs ++ b ∷ []) ≡ mask_of bs + cond b (2 ^ length bs) 0
+mask_push [] true = refl
+mask_push [] false = refl
+mask_push (a ∷ bs) b = go b (mask_push bs b)
   where
-    go : (b : Bool) → bits (bs ++ b ∷ []) ≡ bits bs + cond b (2 ^ length bs) 0 → cond a 1 0 + 2 * bits (bs ++ b ∷ []) ≡ cond a 1 0 + 2 * bits bs + cond b (2 ^ suc (length bs)) 0
+    go : (b : Bool) → mask_of (bs ++ b ∷ []) ≡ mask_of bs + cond b (2 ^ length bs) 0 → cond a 1 0 + 2 * mask_of (bs ++ b ∷ []) ≡ cond a 1 0 + 2 * mask_of bs + cond b (2 ^ suc (length bs)) 0
     go true h = rw pow-suc (omega arith)
     go false h = omega arith
 
-pub bits_below : (bs : List Bool) → bits bs < 2 ^ length bs
-bits_below [] = omega arith
-bits_below (true ∷ bs) = rw pow-suc (omega (arith, bits_below bs))
-bits_below (false ∷ bs) = rw pow-suc (omega (arith, bits_below bs))
+-- the row of a node, with one more entry written into it
+pub row_pushed : (node : Node ℕ) (rank : ℕ) (active : Bool) (mask : ℕ) → length node.active ≡ length node.entries → length node.entries < 16
+    → mask ≡ cond active (bit_or (mask_of node.active) (2 ^ length node.entries)) (mask_of node.active)
+    → record {
+      parent = node.parent;
+      count = length node.entries + 1;
+      entries = set (filled 16 0 node.entries) (length node.entries) rank;
+      mask = mask;
+      weight = node.weight;
+      sections = filled 17 no_section (map (section_row []) node.sections);
+    } ≡ row_of [] (with_entry node rank active)
+row_pushed node rank active mask paired fits marked =
+    λ i. record {
+      parent = node.parent;
+      count = sym (length_push node.entries rank) i;
+      entries = filled_more 16 0 node.entries rank fits i;
+      mask = (marked ∙ go active ∙ sym (mask_push node.active active)) i;
+      weight = node.weight;
+      sections = filled 17 no_section (map (section_row []) node.sections);
+    }
+  where
+    below : mask_of node.active < 2 ^ length node.entries
+    below = rw (← paired) (mask_l-lt node.active)
 
--- what the first i elements give of a block: entries, their number, and the mask
-pub record Filled (p q : ℕ → Bool) (front entries : List ℕ) (count mask : ℕ) : Type 0 where
-  pub holds : entries ≡ filled 16 0 (filter p front)
-  pub counted : count ≡ length (filter p front)
-  pub marked : mask ≡ bits (map q (filter p front))
+    go : (t : Bool) → cond t (bit_or (mask_of node.active) (2 ^ length node.entries)) (mask_of node.active) ≡ mask_of node.active + cond t (2 ^ length node.active) 0
+    go true =
+        or_comm (mask_of node.active) (2 ^ length node.entries)
+        ∙ ap (λ n. bit_or n (mask_of node.active)) (sym (one-mul (2 ^ length node.entries)))
+        ∙ or_shifted 1 (length node.entries) (mask_of node.active) below
+        ∙ omega (arith, ap (λ n. 2 ^ n) paired)
+    go false = omega arith
 
-module _ (p q : ℕ → Bool) (front : List ℕ) (x : ℕ) where
+pub row_counts : (row : Row) (node : Node ℕ) → row ≡ row_of [] node → row.count ≡ length node.entries
+row_counts row node is = ap (λ row. row.count) is
+
+-- the node of a block, with what the first elements of its subtree give
+abbrev pub begun : (p q : ℕ → Bool) (parent weight : ℕ) (front : List ℕ) → Node ℕ
+begun p q parent weight front = record { parent = parent; entries = filter p front; active = map q (filter p front); weight = weight; sections = [] }
+
+module _ (p q : ℕ → Bool) (parent weight : ℕ) (front : List ℕ) (x : ℕ) where
   kept_push : (t : Bool) → p x ≡ t → filter p (front ++ x ∷ []) ≡ filter p front ++ cond t (x ∷ []) []
   kept_push t h = filter-append p front (x ∷ []) ∙ rw h refl
 
-  pub filled_skip : (entries : List ℕ) (count mask : ℕ) → p x ≡ false → Filled p q front entries count mask → Filled p q (front ++ x ∷ []) entries count mask
-  filled_skip entries count mask h f =
-      let same : filter p (front ++ x ∷ []) ≡ filter p front = kept_push false h ∙ append-nil _ in
-      record { holds = rw same f.holds; counted = rw same f.counted; marked = rw same f.marked }
+  pub begun_skip : p x ≡ false → begun p q parent weight front ≡ begun p q parent weight (front ++ x ∷ [])
+  begun_skip h = rw (kept_push false h, append-nil (filter p front)) refl
 
-  pub filled-take : (entries : List ℕ) (count mask mask' : ℕ) → p x ≡ true → count < 16 → mask' ≡ cond (q x) (bit_or mask (2 ^ count)) mask → Filled p q front entries count mask → Filled p q (front ++ x ∷ []) (set entries count x) (count + 1) mask'
-  filled-take entries count mask mask' h less new f =
-      let more : filter p (front ++ x ∷ []) ≡ filter p front ++ x ∷ [] = kept_push true h in
-      record {
-        holds = rw (more, f.holds, f.counted) (filled_more 16 0 (filter p front) x (omega (arith, f.counted)));
-        counted = rw (more, length_push (filter p front) x) (ap (λ n. n + 1) f.counted);
-        marked = new ∙ rw (more, map_push q (filter p front) x, bits_push (map q (filter p front)) (q x), length-map (filter p front) q) (go (q x));
-      }
-    where
-      below : mask < 2 ^ count
-      below = rw (f.marked, f.counted, ← length-map (filter p front) q) (bits_below (map q (filter p front)))
-
-      go : (t : Bool) → cond t (bit_or mask (2 ^ count)) mask ≡ bits (map q (filter p front)) + cond t (2 ^ length (filter p front)) 0
-      go true =
-          or_comm mask (2 ^ count) ∙ ap (λ n. bit_or n mask) (sym (one-mul (2 ^ count))) ∙ or_shifted 1 count mask below ∙ omega (arith, f.marked, ap (λ n. 2 ^ n) f.counted)
-      go false = omega (arith, f.marked)
+  pub begun_more : p x ≡ true → with_entry (begun p q parent weight front) x (q x) ≡ begun p q parent weight (front ++ x ∷ [])
+  begun_more h = rw (kept_push true h, map_push q (filter p front) x) refl
 
 -- an entry that is still to come has a place
 pub place_left : (p : ℕ → Bool) (xs : List ℕ) (i : ℕ) → i < length xs → p (get_or xs i 0) ≡ true → length (filter p (take i xs)) < length (filter p xs)
@@ -67,29 +86,6 @@ place_left p xs i within h =
     let here : filter p (drop i xs) ≡ get_or xs i 0 ∷ filter p (drop (i + 1) xs) = ap (filter p) (drop_more xs i 0 within) ∙ rw h refl in
     rw (parts, here) (omega (arith, length-append (filter p (take i xs)) (get_or xs i 0 ∷ filter p (drop (i + 1) xs))))
 
-ones-zero : ones 0 ≡ 0
-unfolding ones ones_in
-ones-zero = refl
-
-ones_one : ones 1 ≡ 1
-unfolding ones ones_in
-ones_one = refl
-
 -- the mask has a one for each active separator, if those are in the block
-ones-bits : (bs : List Bool) → ones (bits bs) ≡ length (filter (λ b. b) bs)
-ones-bits [] = ones-zero
-ones-bits (true ∷ bs) = ap ones (omega arith) ∙ ones_cat 1 (bits bs) 1 (omega arith) ∙ omega (arith, ones-bits bs, ones_one)
-ones-bits (false ∷ bs) = ap ones (omega arith) ∙ ones_cat 1 (bits bs) 0 (omega arith) ∙ omega (arith, ones-bits bs, ones-zero)
-
-marks_kept : (p q : ℕ → Bool) (xs : List ℕ) → AllByRecursion (λ x. q x ≡ true → p x ≡ true) xs → length (filter (λ b. b) (map q (filter p xs))) ≡ length (filter q xs)
-marks_kept p q [] among = refl
-marks_kept p q (x ∷ xs) among = go (p x) (q x) refl among.0 (marks_kept p q xs among.1)
-  where
-    go : (s t : Bool) → q x ≡ t → (t ≡ true → s ≡ true) → length (filter (λ b. b) (map q (filter p xs))) ≡ length (filter q xs) → length (filter (λ b. b) (map q (cond s (x ∷ filter p xs) (filter p xs)))) ≡ length (cond t (x ∷ filter q xs) (filter q xs))
-    go true true e h rest = rw e (ap suc rest)
-    go true false e h rest = rw e rest
-    go false true e h rest = absurd (both_ways false refl (h refl))
-    go false false e h rest = rest
-
-pub ones_marks : (p q : ℕ → Bool) (xs : List ℕ) → AllByRecursion (λ x. q x ≡ true → p x ≡ true) xs → ones (bits (map q (filter p xs))) ≡ length (filter q xs)
-ones_marks p q xs among = ones-bits (map q (filter p xs)) ∙ marks_kept p q xs among
+pub ones_marks : (p q : ℕ → Bool) (xs : List ℕ) → AllByRecursion (λ x. q x ≡ true → p x ≡ true) xs → ones (mask_of (map q (filter p xs))) ≡ length (filter q xs)
+ones_marks p q xs among = ones-mask_l q (filter p xs) ∙ count_by_kept p q xs among ∙ sym (length-filter q xs)

@@ -1,8 +1,10 @@
 -- The first section of a list, gathered from the left. Assumes nothing.
-use Rattle.std.proofs.Common.{◌≡◌, ℕ, ◌+◌, ◌<◌, ◌≤◌, Bool, true, false, List, [], ◌∷◌, ◌++◌, length, get_or, take, drop, set, sym, refl, ap, ◌∙◌, ap₂, arith}
+use Rattle.std.proofs.Common.{◌≡◌, ℕ, ◌+◌, ◌*◌, ◌<◌, ◌≤◌, Bool, true, false, List, [], ◌∷◌, ◌++◌, length, get_or, take, drop, set, sym, refl, ap, ◌∙◌, ap₂, arith}
 use Rattle.std.proofs.lemmas.List.{append-nil, append_assoc, drop_all, drop-drop, drop_more, drop-set-lt, take_more_set, length-set}
+use Rattle.std.proofs.lemmas.List.Sums.{sum_by_push}
 use Rattle.tree.specs.Tree.{cut, into_first}
 use Rattle.tree.proofs.Cutting.{length_cut}
+use Rattle.planner.specs.Rows.{measure_of}
 
 -- a list put before the first of some lists
 abbrev pub onto : {X : Type 0} → List X → List (List X) → List (List X)
@@ -69,3 +71,15 @@ module _ {X : Type 0} (separator taken : X → Bool) where
 
   pub gathered_all : (xs zs : List X) (k i : ℕ) → Gathering xs zs k i → length xs ≤ i → cut separator taken xs ≡ take k zs ∷ []
   gathered_all xs zs k i sofar past = sofar.parts ∙ rw (drop_all i xs past) (ap (λ l. l ∷ []) (append-nil (take k zs)))
+
+-- the measures of the first k of zs, summed; each is a number of two bytes
+pub record Summed (measures zs : List ℕ) (k sum : ℕ) : Type 0 where
+  pub is : sum ≡ measure_of measures (take k zs)
+  pub small : sum ≤ k * 65535
+
+pub summed_more : (measures zs : List ℕ) (k sum x m : ℕ) → k < length zs → m ≡ get_or measures x 0 → m ≤ 65535 → Summed measures zs k sum → Summed measures (set zs k x) (k + 1) (sum + m)
+summed_more measures zs k sum x m inside read low sofar =
+    record {
+      is = rw (take_more_set zs k x inside) (omega (arith, sofar.is, read, sum_by_push (λ i. get_or measures i 0) (take k zs) x));
+      small = omega (arith, sofar.small, low);
+    }

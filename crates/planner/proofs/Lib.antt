@@ -8,3 +8,4 @@ pub mod Placing
 pub mod Planning
 pub mod Sectioning
 pub mod Whole
+pub mod Carried

@@ -3,7 +3,7 @@ use Rattle.std.proofs.Common.{◌≡◌, ℕ, suc, ◌+◌, ◌<◌, ◌≤◌, 
 use lib.Seq.{sets}
 use Rattle.std.proofs.lemmas.List.Edits.{sets-eq}
 use Rattle.std.proofs.lemmas.List.{set_comm, length-replicate, drop-replicate}
-use Rattle.planner.specs.Rows.{filled}
+use Rattle.fields.specs.Numbers.{filled}
 
 pub sets-append : {X : Type 0} (l : List X) (i : ℕ) (vs ws : List X) → sets l i (vs ++ ws) ≡ sets (sets l i vs) (i + length vs) ws
 sets-append l i [] ws = ap (λ n. sets l n ws) (sym (add-zero i))

@@ -1,13 +1,17 @@
 -- A block and its sections, as planning finds them, are those of the definition. Assumes nothing.
-use Rattle.std.proofs.Common.{◌≡◌, ℕ, suc, ◌+◌, ◌-◌, ◌*◌, ◌<◌, ◌≤◌, min, Bool, true, List, [], ◌∷◌, map, length, set, sym, refl, ap, ◌∙◌, ap₂, le_refl, arith}
+use Rattle.std.proofs.Common.{◌≡◌, ℕ, suc, ◌+◌, ◌-◌, ◌*◌, ◌<◌, ◌≤◌, min, Bool, true, List, [], ◌∷◌, map, length, set, sym, refl, ap, ◌∙◌, le_refl, arith}
 use lib.Count.{ones}
+use lib.Lanes.{mask_l as mask_of}
 use lib.Seq.{sets}
 use Rattle.std.specs.List.{AllByRecursion}
-use Rattle.std.proofs.ByRecursion.{all_kept_by}
+use Rattle.std.proofs.ByRecursion.{all_kept_by, All-weaker, sum_by_le}
 use Rattle.std.proofs.lemmas.List.{length-append, length-map}
+use Rattle.std.proofs.lemmas.List.Sums.{sum_by-append, sum_by-cons}
+use Rattle.fields.specs.Numbers.{filled}
 use Rattle.tree.specs.Tree.{Node, fan_out, cut, forest, numbered, block, is_active, among_earliest, sections, nodes}
 use Rattle.tree.specs.Laws.{Distinct}
-use Rattle.tree.proofs.Lists.{kept_by_same, all_join}
+use Rattle.tree.proofs.Bounds.{nodes_bounded}
+use Rattle.tree.proofs.Lists.{kept_by_same, map_same, all_join}
 use Rattle.tree.proofs.Cutting.{together, length_cut, cut_lengths}
 use Rattle.tree.proofs.Forest.{forest_same, numbered_same, length-numbered}
 use Rattle.tree.proofs.Nodes.{root_node, fuel_enough, nodes_few}
@@ -16,9 +20,9 @@ use Rattle.planner.specs.declared.bounds.Bounds.{Bounds}
 use Rattle.planner.specs.declared.row.Row.{Row}
 use Rattle.planner.specs.Bounding.{Allowed, in_block, separates}
 use Rattle.planner.specs.Drawing.{rank_before}
-use Rattle.planner.specs.Rows.{filled, bits, no_section, section_row, row_of}
+use Rattle.planner.specs.Rows.{no_section, section_row, row_of}
 use Rattle.planner.specs.Steps.{held_by, root_alone, cut_by, left_by}
-use Rattle.planner.specs.Subtrees.{subtree, with_sections}
+use Rattle.planner.specs.Subtrees.{subtree, visits, with_sections}
 use Rattle.planner.proofs.Choosing.{all_unit}
 use Rattle.planner.proofs.Fan.{fan_within}
 use Rattle.planner.proofs.Filling.{ones_marks}
@@ -31,17 +35,13 @@ pub record Divided (ps : List ℕ) (alpha rho : ℕ) (b : Bounds) (xs : List ℕ
   pub held : length (held_by ps b xs) ≡ min alpha (length xs)
   pub left : length (held_by ps b xs) + left_by ps b xs ≡ length xs
   pub parts : length (cut_by ps b xs) ≡ fan_out alpha rho (length xs)
-  pub fan : length (cut_by ps b xs) ≡ ones (bits (map (separates ps b) (held_by ps b xs))) + 1
+  pub fan : length (cut_by ps b xs) ≡ ones (mask_of (map (separates ps b) (held_by ps b xs))) + 1
   pub falls : 3 * left_by ps b xs + length (cut_by ps b xs) < 3 * length xs
 
 -- tests that agree on the elements cut alike, and give the same flags
 cut_same : (p p' q q' : ℕ → Bool) (xs : List ℕ) → AllByRecursion (λ x. p x ≡ q x) xs → AllByRecursion (λ x. p' x ≡ q' x) xs → cut p p' xs ≡ cut q q' xs
 cut_same p p' q q' [] same same' = refl
 cut_same p p' q q' (x ∷ xs) same same' = rw (same.0, same'.0, cut_same p p' q q' xs same.1 same'.1)
-
-map_same : {A B : Type 0} (p q : A → B) (xs : List A) → AllByRecursion (λ x. p x ≡ q x) xs → map p xs ≡ map q xs
-map_same p q [] same = refl
-map_same p q (x ∷ xs) same = ap₂ ◌∷◌ same.0 (map_same p q xs same.1)
 
 module _ (ps : List ℕ) (alpha rho : ℕ) (allowed : Allowed alpha rho) where
   -- there are no more blocks than ranks
@@ -53,6 +53,20 @@ module _ (ps : List ℕ) (alpha rho : ℕ) (allowed : Allowed alpha rho) where
   forest_few parent k (s ∷ parts) apart =
       let first = subtree ps alpha rho parent k s in
       omega (arith, subtree_few parent k s apart.0, forest_few parent (k + length first) parts apart.1, length-append first (forest (subtree ps alpha rho parent) (k + length first) parts), length-append s (together parts))
+
+  -- planning few ranks looks at them a bounded number of times
+  pub subtree-visits : (parent k : ℕ) (xs : List ℕ) → length xs ≤ 2000 → visits (subtree ps alpha rho parent k xs) ≤ length (subtree ps alpha rho parent k xs) * 6000
+  subtree-visits parent k xs short =
+      sum_by_le (λ node. 3 * node.weight) 6000 (subtree ps alpha rho parent k xs)
+      (All-weaker _ _ (λ node b. omega (arith, b.weight)) _ (nodes_bounded (rank_before ps) alpha rho (λ _. Unit {0}) 2000 (length xs) parent k xs (all_unit xs) short))
+
+  pub forest-visits : (parent k : ℕ) (parts : List (List ℕ)) → length (together parts) ≤ 2000 → visits (forest (subtree ps alpha rho parent) k parts) ≤ length (forest (subtree ps alpha rho parent) k parts) * 6000
+  forest-visits parent k [] short = omega arith
+  forest-visits parent k (s ∷ parts) short =
+      let first = subtree ps alpha rho parent k s in
+      let others = forest (subtree ps alpha rho parent) (k + length first) parts in
+      let long = length-append s (together parts) in
+      omega (arith, subtree-visits parent k s (omega arith), forest-visits parent (k + length first) parts (omega arith), length-append first others, sum_by-append (λ node. 3 * node.weight) first others)
 
   -- a subtree is its root, and the subtrees of its sections
   pub subtree_is : (parent k : ℕ) (xs : List ℕ) → 0 < length xs → Distinct xs → subtree ps alpha rho parent k xs ≡ root_node (rank_before ps) alpha rho (subtree ps alpha rho k) parent k xs ∷ forest (subtree ps alpha rho k) (k + 1) (sections (rank_before ps) alpha rho xs)
@@ -99,13 +113,13 @@ module _ (ps : List ℕ) (alpha rho : ℕ) (allowed : Allowed alpha rho) where
 
     module _ (parent k : ℕ) where
       -- the row with its sections noted is the root's
-      pub root_row : with_sections (row_of (root_alone ps b parent xs)) (sets (row_of (root_alone ps b parent xs)).sections 0 (map section_row (numbered (subtree ps alpha rho k) (k + 1) (cut_by ps b xs)))) ≡ row_of (root_node (rank_before ps) alpha rho (subtree ps alpha rho k) parent k xs)
-      root_row =
+      pub root_row : (measures : List ℕ) → with_sections (row_of [] (root_alone ps b parent xs)) (sets (row_of [] (root_alone ps b parent xs)).sections 0 (map (section_row measures) (numbered (subtree ps alpha rho k) (k + 1) (cut_by ps b xs)))) ≡ row_of measures (root_node (rank_before ps) alpha rho (subtree ps alpha rho k) parent k xs)
+      root_row measures =
           λ i. record {
             parent = parent;
             count = ap length held_is i;
             entries = ap (filled 16 0) held_is i;
-            mask = ap bits marks_are i;
+            mask = ap mask_of marks_are i;
             weight = length xs;
             sections = noted i;
           }
@@ -113,18 +127,22 @@ module _ (ps : List ℕ) (alpha rho : ℕ) (allowed : Allowed alpha rho) where
           below : ℕ → List ℕ → List (Node ℕ)
           below = subtree ps alpha rho k
 
-          fits : length (map section_row (numbered below (k + 1) (cut_by ps b xs))) ≤ 17
-          fits = rw (length-map (numbered below (k + 1) (cut_by ps b xs)) section_row, length-numbered below (k + 1) (cut_by ps b xs), parts_count) (omega (arith, allowed.few))
+          fits : length (map (section_row measures) (numbered below (k + 1) (cut_by ps b xs))) ≤ 17
+          fits = rw (length-map (numbered below (k + 1) (cut_by ps b xs)) (section_row measures), length-numbered below (k + 1) (cut_by ps b xs), parts_count) (omega (arith, allowed.few))
 
-          noted : sets (filled 17 no_section []) 0 (map section_row (numbered below (k + 1) (cut_by ps b xs))) ≡ filled 17 no_section (map section_row (numbered below (k + 1) (sections (rank_before ps) alpha rho xs)))
-          noted = sets-filled 17 no_section (map section_row (numbered below (k + 1) (cut_by ps b xs))) fits ∙ ap (λ parts. filled 17 no_section (map section_row (numbered below (k + 1) parts))) parts_are
+          noted : sets (filled 17 no_section []) 0 (map (section_row measures) (numbered below (k + 1) (cut_by ps b xs))) ≡ filled 17 no_section (map (section_row measures) (numbered below (k + 1) (sections (rank_before ps) alpha rho xs)))
+          noted = sets-filled 17 no_section (map (section_row measures) (numbered below (k + 1) (cut_by ps b xs))) fits ∙ ap (λ parts. filled 17 no_section (map (section_row measures) (numbered below (k + 1) parts))) parts_are
 
       -- the nodes of the sections, with the root before them
       pub subtree_parts : subtree ps alpha rho parent k xs ≡ root_node (rank_before ps) alpha rho (subtree ps alpha rho k) parent k xs ∷ forest (subtree ps alpha rho k) (k + 1) (cut_by ps b xs)
       subtree_parts = subtree_is parent k xs some apart ∙ ap (λ parts. root_node (rank_before ps) alpha rho (subtree ps alpha rho k) parent k xs ∷ forest (subtree ps alpha rho k) (k + 1) parts) (sym parts_are)
 
+      -- three looks at each rank for the root, and those at the ranks of its sections
+      pub subtree_visited : visits (subtree ps alpha rho parent k xs) ≡ 3 * length xs + visits (forest (subtree ps alpha rho k) (k + 1) (cut_by ps b xs))
+      subtree_visited = ap visits subtree_parts ∙ sum_by-cons (λ node. 3 * node.weight) (root_node (rank_before ps) alpha rho (subtree ps alpha rho k) parent k xs) (forest (subtree ps alpha rho k) (k + 1) (cut_by ps b xs))
+
       -- the root's row, written after those of its sections, stands before them
-      pub root_placed : (table : List Row) (row : Row) → 1 ≤ k → row ≡ row_of (root_node (rank_before ps) alpha rho (subtree ps alpha rho k) parent k xs) → set (sets table (k + 1 - 1) (map row_of (forest (subtree ps alpha rho k) (k + 1) (cut_by ps b xs)))) (k - 1) row ≡ sets table (k - 1) (map row_of (subtree ps alpha rho parent k xs))
-      root_placed table row first is =
+      pub root_placed : (measures : List ℕ) (table : List Row) (row : Row) → 1 ≤ k → row ≡ row_of measures (root_node (rank_before ps) alpha rho (subtree ps alpha rho k) parent k xs) → set (sets table (k + 1 - 1) (map (row_of measures) (forest (subtree ps alpha rho k) (k + 1) (cut_by ps b xs)))) (k - 1) row ≡ sets table (k - 1) (map (row_of measures) (subtree ps alpha rho parent k xs))
+      root_placed measures table row first is =
           let up : k + 1 - 1 ≡ suc (k - 1) = omega arith in
-          rw (subtree_parts, is, up) (set-sets table (suc (k - 1)) (k - 1) (row_of (root_node (rank_before ps) alpha rho (subtree ps alpha rho k) parent k xs)) (map row_of (forest (subtree ps alpha rho k) (k + 1) (cut_by ps b xs))) (omega arith))
+          rw (subtree_parts, is, up) (set-sets table (suc (k - 1)) (k - 1) (row_of measures (root_node (rank_before ps) alpha rho (subtree ps alpha rho k) parent k xs)) (map (row_of measures) (forest (subtree ps alpha rho k) (k + 1) (cut_by ps b xs))) (omega arith))

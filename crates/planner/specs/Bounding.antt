@@ -1,5 +1,5 @@
 -- Block and active separators told by a last rank each. Assumes nothing.
-use Rattle.std.specs.Prelude.{ℕ, ◌≤◌, Bool, not, ◌&&◌, List}
+use Rattle.std.specs.Prelude.{ℕ, ◌≤◌, Bool, false, not, List, option_map, unwrap_or}
 use Rattle.planner.specs.declared.bounds.Bounds.{Bounds}
 use Rattle.planner.specs.Drawing.{rank_before}
 
@@ -14,6 +14,6 @@ pub record Allowed (alpha rho : ℕ) : Type 0 where
 abbrev pub in_block : List ℕ → Bounds → ℕ → Bool
 in_block priorities b x = not (rank_before priorities b.last x)
 
--- active is what is not drawn after the last active separator
+-- active is what is not drawn after the last active separator, if there is one
 abbrev pub separates : List ℕ → Bounds → ℕ → Bool
-separates priorities b x = b.divides && not (rank_before priorities b.separator x)
+separates priorities b x = unwrap_or (option_map (λ s. not (rank_before priorities s x)) b.separator) false

@@ -1,66 +1,54 @@
 // Which ranks of a subtree its block holds, and which of them are active separators.
-ghost use Rattle.std.specs.Prelude.{◌≡◌, ◌<◌, ◌≤◌, length};
+ghost use Rattle.std.specs.Prelude.{◌≡◌, ◌<◌, ◌≤◌, map, length};
 ghost use Rattle.std.specs.List.{AllByRecursion};
 ghost use Rattle.tree.specs.Laws.{Distinct};
-ghost use Rattle.tree.specs.Tree.{fan_out, among_earliest, is_active};
+ghost use Rattle.tree.specs.Tree.{among_earliest, is_active};
 ghost use Rattle.planner.specs.Drawing.{rank_before};
-ghost use Rattle.planner.specs.Bounding.{Allowed, in_block, separates};
+ghost use Rattle.planner.specs.Bounding.{in_block, separates};
 
-use crate::drawing::earlier;
-use crate::earliest::earliest;
+use crate::drawing::Drawing;
+use crate::entry::Entry;
+use crate::settings::Settings;
 
-// The block holds the ranks that are not drawn after `last`. Active are those that are not drawn after `separator`, or none
-// unless the block divides what is beneath it.
+// The block holds the ranks that are not drawn after `last`. Active are those that are not drawn after `separator`, and none where
+// the block does not divide what is beneath it.
 #[derive(Clone, Copy)]
 pub(crate) struct Bounds {
     last: u16,
-    divides: bool,
-    separator: u16,
+    separator: Option<u16>,
 }
 
-// The fan-out of a subtree of n entries.
-fn fan_out(alpha: usize, rho: usize, n: usize) -> usize
-    requires allowed { Allowed alpha rho }
-    requires n_bound { n ≤ 2000 }
-    ensures { result ≡ fan_out alpha rho n }
-{
-    let rounded_up = (n.saturating_sub(alpha) + (rho - 1)) / rho;
-    rounded_up.max(1).min(alpha + 1)
-}
-
-impl Bounds {
+impl<'a, E: Entry> Drawing<'a, E> {
     // The bounds of the block over some ranks.
-    pub(crate) fn of(priorities: &[u16], ranks: &[u16], alpha: usize, rho: usize) -> Bounds
-        requires settings { Allowed alpha rho }
+    pub(crate) fn bounds(&self, settings: Settings, ranks: &[u16]) -> Bounds
         requires some { 0 < length ranks.now }
         requires few { length ranks.now ≤ 2000 }
         requires apart { Distinct ranks.now }
-        ensures block { AllByRecursion (λ x. in_block priorities.now result x ≡ among_earliest (rank_before priorities.now) alpha ranks.now x) ranks.now }
-        ensures active { AllByRecursion (λ x. separates priorities.now result x ≡ is_active (rank_before priorities.now) alpha rho ranks.now x) ranks.now }
+        ensures block { AllByRecursion (λ x. in_block (map E.priority self.now.entries.now) result x ≡ among_earliest (rank_before (map E.priority self.now.entries.now)) settings.alpha ranks.now x) ranks.now }
+        ensures active { AllByRecursion (λ x. separates (map E.priority self.now.entries.now) result x ≡ is_active (rank_before (map E.priority self.now.entries.now)) settings.alpha settings.rho ranks.now x) ranks.now }
     {
-        let chosen = earliest(priorities, ranks, alpha);
-        let separators = fan_out(alpha, rho, ranks.len()) - 1;
-        let divides = separators > 0;
-        let separator = if divides { chosen[separators - 1] } else { 0 };
-        let last = chosen[alpha.min(ranks.len()) - 1];
+        let chosen = self.earliest(ranks, settings.alpha);
+        let separators = settings.fan_out(ranks.len()) - 1;
         Bounds {
-            last,
-            divides,
-            separator,
+            last: chosen[settings.alpha.min(ranks.len()) - 1],
+            separator: chosen[..separators].last().copied(),
         }
     }
 
     // Whether the block holds a rank of its subtree.
-    pub(crate) fn holds(self, priorities: &[u16], rank: u16) -> bool
-        ensures { result ≡ in_block priorities.now self rank }
+    pub(crate) fn holds(&self, bounds: Bounds, rank: u16) -> bool
+        ensures { result ≡ in_block (map E.priority self.now.entries.now) bounds rank }
     {
-        !earlier(priorities, self.last, rank)
+        !self.earlier(bounds.last, rank)
     }
 
     // Whether a rank of its subtree is an active separator.
-    pub(crate) fn separates(self, priorities: &[u16], rank: u16) -> bool
-        ensures { result ≡ separates priorities.now self rank }
+    pub(crate) fn separates(&self, bounds: Bounds, rank: u16) -> bool
+        ensures { result ≡ separates (map E.priority self.now.entries.now) bounds rank }
     {
-        self.divides && !earlier(priorities, self.separator, rank)
+        match bounds.separator {
+            Some(separator) => !self.earlier(separator, rank),
+            None => false,
+        }
     }
 }

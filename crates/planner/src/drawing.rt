@@ -1,24 +1,32 @@
 // The order in which ranks are drawn.
-ghost use Rattle.std.specs.Prelude.{◌≡◌, slice_index};
+ghost use Rattle.std.specs.Prelude.{◌≡◌, map, slice_index};
 ghost use Rattle.planner.specs.Drawing.{rank_before};
 
-// The priority of a rank; one past the end has priority 0.
-fn priority(priorities: &[u16], rank: u16) -> u16
-    ensures { result ≡ slice_index priorities.now rank }
-{
-    let at = rank as usize;
-    if at < priorities.len() {
-        priorities[at]
-    } else {
-        0
-    }
+use crate::entry::Entry;
+
+// Entries in key order. A rank is a position among them; one past their end has priority and measure 0.
+#[derive(Drop)]
+pub(crate) struct Drawing<'a, E> {
+    pub(crate) entries: &'a [E],
 }
 
-// Whether one rank is drawn before another.
-pub(crate) fn earlier(priorities: &[u16], one: u16, other: u16) -> bool
-    ensures { result ≡ rank_before priorities.now one other }
-{
-    let p = priority(priorities, one);
-    let q = priority(priorities, other);
-    p < q || (p == q && one < other)
+impl<'a, E: Entry> Drawing<'a, E> {
+    pub(crate) fn priority(&self, rank: u16) -> u16
+        ensures { result ≡ slice_index (map E.priority self.now.entries.now) rank }
+    {
+        self.entries.get(rank as usize).map_or(0, E::priority)
+    }
+
+    pub(crate) fn measure(&self, rank: u16) -> u16
+        ensures { result ≡ slice_index (map E.measure self.now.entries.now) rank }
+    {
+        self.entries.get(rank as usize).map_or(0, E::measure)
+    }
+
+    // Whether one rank is drawn before another.
+    pub(crate) fn earlier(&self, one: u16, other: u16) -> bool
+        ensures { result ≡ rank_before (map E.priority self.now.entries.now) one other }
+    {
+        (self.priority(one), one) < (self.priority(other), other)
+    }
 }

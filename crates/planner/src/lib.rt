@@ -1,49 +1,59 @@
-// The planner: from the drawing priorities of some entries in key order, the blocks of their tree.
+// The planner: from the drawing priorities and the measures of some entries in key order, the blocks of their tree, the measure of each
+// section, and a count of visits.
 #![tactic(auto)]
 
-ghost use Rattle.std.specs.Prelude.{◌≡◌, true, map, length, replicate, if◌then◌else◌, Some, None};
-ghost use Rattle.planner.specs.Plan.{plannable, rank_tree, overwritten, MaskTellsSections, PlanIsTree};
-ghost use Rattle.planner.specs.Rows.{row_of};
+ghost use Rattle.std.specs.Prelude.{◌≡◌, true, map, length};
+ghost use Rattle.planner.specs.Plan.{plannable, plan_answer, plan_rows, plan_work, MaskTellsSections, PlanIsTree};
 
 mod bounds;
 mod drawing;
 mod earliest;
 mod entries;
+pub mod entry;
+pub mod extent;
 mod gather;
-mod limits;
 mod plan;
 pub mod row;
+mod settings;
 mod work;
 
-use limits::can_plan;
-use plan::{Settings, plan_block};
+use drawing::Drawing;
+use entry::Entry;
+use extent::Extent;
+use plan::Planning;
 use row::Row;
+use settings::{CAPACITY, Settings};
 use work::count_up;
 
-// Plans the tree of some entries, whose drawing priorities come in key order: a row for each block, in preorder, from the front of
-// the table on. The answer is how many blocks there are, or none, with nothing touched, if that cannot be planned. The work area
-// may hold anything; a place for each entry is 0 afterwards.
-pub fn plan_tree(
-    priorities: &[u16],
+// Plans the tree of some entries, which come in key order: a row for each block, in preorder, from the front of the table on. The
+// answer is how many blocks there are, and how many visits to ranks were counted; or none, with nothing touched, if that cannot be
+// planned. The work area may hold anything; a place for each entry is 0 afterwards.
+pub fn plan_tree<E: Entry>(
+    entries: &[E],
     alpha: usize,
     rho: usize,
     work: &mut [u16],
     table: &mut [Row],
-) -> Option<usize>
-    ensures answer { result ≡ (if plannable (length priorities.now) alpha rho (length work.old) (length table.old) then Some (length (rank_tree priorities.now alpha rho)) else None) }
-    ensures rows { table.new ≡ (if plannable (length priorities.now) alpha rho (length work.old) (length table.old) then overwritten (map row_of (rank_tree priorities.now alpha rho)) table.old else table.old) }
-    ensures cleared { work.new ≡ (if plannable (length priorities.now) alpha rho (length work.old) (length table.old) then overwritten (replicate (length priorities.now) 0) work.old else work.old) }
-    ensures fan { plannable (length priorities.now) alpha rho (length work.old) (length table.old) ≡ true → MaskTellsSections priorities.now alpha rho }
+) -> Option<Extent>
+    ensures answer { result ≡ plan_answer (map E.priority entries.now) alpha rho (length work.old) (length table.old) }
+    ensures rows { table.new ≡ plan_rows (map E.priority entries.now) (map E.measure entries.now) alpha rho (length work.old) table.old }
+    ensures cleared { work.new ≡ plan_work (map E.priority entries.now) alpha rho work.old (length table.old) }
+    ensures fan { plannable (length entries.now) alpha rho (length work.old) (length table.old) ≡ true → MaskTellsSections (map E.priority entries.now) alpha rho }
 {
-    let n = priorities.len();
-    if !can_plan(n, alpha, rho, work.len(), table.len()) {
+    let settings = Settings::new(alpha, rho)?;
+    let n = entries.len();
+    if n > CAPACITY || n > work.len() || n > table.len() {
         return None;
     }
-    let settings = Settings { alpha, rho };
-    count_up(&mut work[0..n]);
-    let blocks = plan_block(priorities, settings, &mut work[0..n], table, 0, 1);
-    (&mut work[0..n]).fill(0);
-    Some(blocks as usize)
+    let planning = Planning {
+        drawing: Drawing { entries },
+        settings,
+    };
+    let ranks = &mut work[..n];
+    count_up(ranks);
+    let extent = planning.plan_block(ranks, table, 0, 1);
+    ranks.fill(0);
+    Some(extent)
 }
 
 // A plan over the ranks of any elements is the tree of the elements.

@@ -1,16 +1,31 @@
 // What a plan says of each block.
-ghost use Rattle.std.specs.Prelude.{◌≡◌, ◌+◌, count_ones};
+ghost use Rattle.std.specs.Prelude.{◌≡◌, ℕ, ◌+◌, ◌<◌, [], length, count_ones};
+ghost use Rattle.tree.specs.Tree.{Node};
+ghost use Rattle.planner.specs.Rows.{row_of};
+ghost use Rattle.planner.specs.Steps.{with_entry};
 
-// A section of a block: the number of its own block, and how many entries lie in it. Both are 0 if it is empty.
-#[derive(Clone, Copy)]
+// A section of a block: the number of its own block, how many entries lie in it, and the sum of their measures. All are 0 if it is
+// empty.
+#[derive(Clone, Copy, PartialEq, Eq, Debug)]
 pub struct SectionRow {
     pub block: u16,
     pub weight: u16,
+    pub measure: u32,
+}
+
+impl SectionRow {
+    // An empty section, or none.
+    pub const EMPTY: SectionRow = SectionRow {
+        block: 0,
+        weight: 0,
+        measure: 0,
+    };
 }
 
 // A block of the tree: the number of the block above it (0 for the root), how many entries it holds, their ranks in key
-// order, the mask of the active separators, how many entries its subtree has, and its sections from the left.
-#[derive(Clone, Copy)]
+// order, the mask of the active separators, how many entries its subtree has, and its sections from the left. It is of fixed
+// size, with a count and a mask beside its arrays and 0 for no block, since a block's record holds just these numbers.
+#[derive(Clone, Copy, PartialEq, Eq, Debug)]
 pub struct Row {
     pub parent: u16,
     pub count: u16,
@@ -28,11 +43,20 @@ impl Row {
         entries: [0; 16],
         mask: 0,
         weight: 0,
-        sections: [SectionRow {
-            block: 0,
-            weight: 0,
-        }; 17],
+        sections: [SectionRow::EMPTY; 17],
     };
+
+    // Adds an entry to the right of those that the row has.
+    pub(crate) fn push(&mut self, rank: u16, active: bool)
+        requires { self.old.count < 16 }
+        ensures { (node : Node ℕ) → length node.active ≡ length node.entries → self.old ≡ row_of [] node → self.new ≡ row_of [] (with_entry node rank active) }
+    {
+        self.entries[self.count as usize] = rank;
+        if active {
+            self.mask |= 1 << self.count;
+        }
+        self.count += 1;
+    }
 
     // How many sections the block has: one more than there are active separators.
     pub fn fan_out(&self) -> usize

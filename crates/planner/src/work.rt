@@ -7,7 +7,7 @@ pub(crate) fn count_up(ranks: &mut [u16])
     requires { length ranks.old ≤ 2000 }
     ensures { ranks.new ≡ range_with_len 0 (length ranks.old) }
 {
-    for i in 0..ranks.len() {
-        ranks[i] = i as u16;
+    for (place, rank) in ranks.iter_mut().enumerate() {
+        *rank = place as u16;
     }
 }

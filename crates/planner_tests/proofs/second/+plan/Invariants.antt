@@ -1,4 +1,0 @@
-use Rattle.planner_tests.proofs.second.+plan.Given as goal
-
-abbrev pub decreases-plan : goal.decreases-plan
-decreases-plan l = l.depth

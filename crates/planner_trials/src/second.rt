@@ -1,0 +1,154 @@
+// A second planner: it sorts the ranks once by the order in which they are drawn, and gives each section the rest of them by a count
+// of the active separators below.
+use planner::entry::Entry;
+use std::alloc::{AllocError, Global};
+
+// What is to be said of a block. Its entries are ranks in key order, each with whether it is active.
+#[derive(Drop, PartialEq, Eq)]
+pub(crate) struct Block {
+    pub(crate) parent: usize,
+    pub(crate) weight: usize,
+    pub(crate) entries: Vec<(usize, bool)>,
+    pub(crate) sections: Vec<Section>,
+}
+
+// What is to be said of a section: the number of its block (0 if it is empty), and the count and the measure of its entries.
+#[derive(Clone, Copy, PartialEq, Eq)]
+pub(crate) struct Section {
+    pub(crate) number: usize,
+    pub(crate) weight: usize,
+    pub(crate) measure: usize,
+}
+
+// The ranks of some entries in the order in which they are drawn.
+fn draw<E: Entry>(heap: Global, entries: &[E]) -> Result<Vec<usize>, AllocError> {
+    let mut drawn = Vec::new(heap);
+    for (rank, entry) in entries.iter().enumerate() {
+        drawn.push((entry.priority(), rank))?;
+    }
+    drawn.sort_unstable();
+    drawn.iter().map(|(_, rank)| *rank).collect(heap)
+}
+
+fn fan_out(alpha: usize, rho: usize, n: usize) -> usize {
+    let mut sections = 1usize;
+    let mut covered = alpha.saturating_add(rho);
+    for _ in 0..alpha {
+        if covered < n {
+            sections = sections.saturating_add(1);
+            covered = covered.saturating_add(rho);
+        }
+    }
+    sections
+}
+
+// How many of the first `separators` lie below a rank.
+fn below(drawn: &[usize], separators: usize, rank: usize) -> usize {
+    drawn
+        .iter()
+        .take(separators)
+        .filter(|other| **other < rank)
+        .count()
+}
+
+// What the second planner plans: entries, under settings.
+#[derive(Drop)]
+struct Second<'a, E> {
+    heap: Global,
+    entries: &'a [E],
+    alpha: usize,
+    rho: usize,
+}
+
+impl<'a, E: Entry> Second<'a, E> {
+    // The ranks of a section, in the order in which they are drawn.
+    fn section(
+        &self,
+        drawn: &[usize],
+        separators: usize,
+        number: usize,
+    ) -> Result<Vec<usize>, AllocError> {
+        drawn
+            .iter()
+            .copied()
+            .skip(self.alpha)
+            .filter(|rank| below(drawn, separators, *rank) == number)
+            .collect(self.heap)
+    }
+
+    // A block's ranks in key order, each with whether it is active.
+    fn block(&self, drawn: &[usize], separators: usize) -> Result<Vec<(usize, bool)>, AllocError> {
+        let mut entries = Vec::new(self.heap);
+        for (i, rank) in drawn.iter().take(self.alpha).enumerate() {
+            entries.push((*rank, i < separators))?;
+        }
+        entries.sort_unstable();
+        Ok(entries)
+    }
+
+    // The sum of the measures of some ranks.
+    fn measure(&self, ranks: &[usize]) -> usize {
+        let mut sum = 0usize;
+        for rank in ranks {
+            let measure = self.entries.get(*rank).map_or(0, E::measure);
+            sum = sum.saturating_add(usize::from(measure));
+        }
+        sum
+    }
+
+    // The blocks of the subtree of some ranks, as they are drawn, below a parent and with a number. Its depth is at most the number
+    // of the ranks.
+    fn plan(
+        &self,
+        depth: usize,
+        drawn: &[usize],
+        parent: usize,
+        number: usize,
+    ) -> Result<Vec<Block>, AllocError> {
+        let mut blocks = Vec::new(self.heap);
+        if depth == 0 || drawn.is_empty() {
+            return Ok(blocks);
+        }
+        let fan_out = fan_out(self.alpha, self.rho, drawn.len());
+        let separators = fan_out.saturating_sub(1);
+        let mut sections = Vec::new(self.heap);
+        let mut beneath = Vec::new(self.heap);
+        let mut next = number.saturating_add(1);
+        for i in 0..fan_out {
+            let members = self.section(drawn, separators, i)?;
+            sections.push(Section {
+                number: if members.is_empty() { 0 } else { next },
+                weight: members.len(),
+                measure: self.measure(members.as_slice()),
+            })?;
+            let mut planned = self.plan(depth - 1, members.as_slice(), number, next)?;
+            next = next.saturating_add(planned.len());
+            beneath.append(&mut planned)?;
+        }
+        blocks.push(Block {
+            parent,
+            weight: drawn.len(),
+            entries: self.block(drawn, separators)?,
+            sections,
+        })?;
+        blocks.append(&mut beneath)?;
+        Ok(blocks)
+    }
+}
+
+// The plan of some entries.
+pub(crate) fn plan<E: Entry>(
+    heap: Global,
+    entries: &[E],
+    alpha: usize,
+    rho: usize,
+) -> Result<Vec<Block>, AllocError> {
+    let second = Second {
+        heap,
+        entries,
+        alpha,
+        rho,
+    };
+    let drawn = draw(heap, entries)?;
+    second.plan(drawn.len(), drawn.as_slice(), 0, 1)
+}

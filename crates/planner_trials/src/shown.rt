@@ -1,0 +1,49 @@
+// A plan as text: for each block its parent, its ranks with a star at the active separators, and the numbers of its sections.
+use planner::extent::Extent;
+use planner::row::Row;
+use std::fmt;
+
+#[derive(Drop)]
+struct ShownRow<'a>(&'a Row);
+
+impl fmt::Display for ShownRow<'_> {
+    fn fmt<W: fmt::Write>(&self, f: &mut fmt::Formatter<W>) -> fmt::Result {
+        let row = self.0;
+        let parent = row.parent;
+        write!(f, " {parent}[")?;
+        let mut marks = row.mask;
+        for (i, rank) in row.entries.iter().take(usize::from(row.count)).enumerate() {
+            let comma = if i > 0 { "," } else { "" };
+            let star = if marks % 2 == 1 { "*" } else { "" };
+            write!(f, "{comma}{rank}{star}")?;
+            marks /= 2;
+        }
+        write!(f, "]{{")?;
+        for (i, section) in row.sections.iter().take(row.fan_out()).enumerate() {
+            let comma = if i > 0 { "," } else { "" };
+            let block = section.block;
+            write!(f, "{comma}{block}")?;
+        }
+        write!(f, "}}")
+    }
+}
+
+// The blocks of a plan, or that it was refused, over the table that it was written into.
+#[derive(Drop)]
+pub(crate) struct ShownPlan<'a> {
+    pub(crate) rows: &'a [Row],
+    pub(crate) planned: Option<Extent>,
+}
+
+impl fmt::Display for ShownPlan<'_> {
+    fn fmt<W: fmt::Write>(&self, f: &mut fmt::Formatter<W>) -> fmt::Result {
+        let Some(extent) = self.planned else {
+            return write!(f, " refused");
+        };
+        for row in self.rows.iter().take(usize::from(extent.blocks)) {
+            let shown = ShownRow(row);
+            write!(f, "{shown}")?;
+        }
+        Ok(())
+    }
+}
