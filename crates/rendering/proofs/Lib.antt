@@ -1,5 +1,5 @@
 pub mod Laying
-pub mod Messages
 pub mod Rendering
+pub mod Refusing
 pub mod Ranks
 pub mod Planned

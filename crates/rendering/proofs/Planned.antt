@@ -17,13 +17,13 @@ use Rattle.tree.specs.Tree.{Section, Node}
 use Rattle.tree.proofs.Bounds.{Bounded, nodes_bounded}
 use Rattle.tree.proofs.Lists.{all_join, map_same, map_twice}
 use Rattle.tree.proofs.Nodes.{nodes_lawful}
-use Rattle.measured_planner.specs.Drawing.{rank_before}
-use Rattle.measured_planner.specs.Plan.{rank_tree}
-use Rattle.measured_planner.specs.Rows.{measure_of, no_section, row_of, section_row}
-use Rattle.measured_planner.proofs.Apart.{distinct_counting}
-use Rattle.measured_planner.proofs.Carried.{all_counting, plan_is_tree}
-use Rattle.measured_planner.proofs.Choosing.{all_unit}
-use Rattle.measured_planner.proofs.Order.{strict}
+use Rattle.planner.specs.Drawing.{rank_before}
+use Rattle.planner.specs.Plan.{rank_tree}
+use Rattle.planner.specs.Rows.{measure_of, no_section, row_of, section_row}
+use Rattle.planner.proofs.Apart.{distinct_counting}
+use Rattle.planner.proofs.Carried.{all_counting, plan_is_tree}
+use Rattle.planner.proofs.Choosing.{all_unit}
+use Rattle.planner.proofs.Order.{strict}
 use Rattle.image.specs.declared.settings.Settings.{Settings}
 use Rattle.image.specs.Image.{block_from, record_of, section_record, tree_block, tree_of}
 use Rattle.image.specs.Messages.{key_of, before, total_measure}

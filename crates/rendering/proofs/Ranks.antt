@@ -7,7 +7,7 @@ use Rattle.std.proofs.lemmas.Bool.{cases_lt, lt-ltb, le-ltb}
 use Rattle.drawing.specs.Drawing.{priority}
 use Rattle.kinds.specs.Kind.{Kind, Key, Lawful}
 use Rattle.tree.proofs.Pairs.{pairwise_at}
-use Rattle.measured_planner.specs.Drawing.{rank_before}
+use Rattle.planner.specs.Drawing.{rank_before}
 use Rattle.image.specs.Messages.{key_of, Valid, Messages, before}
 use Rattle.image.proofs.Drawn.{KeyBelow, key_of_lem, messages_rise}
 use Rattle.rendering.specs.Laws.{priorities_of}

@@ -3,9 +3,9 @@ use Rattle.std.specs.Prelude.{◌≡◌, ℕ, true, List, map}
 use Rattle.std.specs.List.{flat_map, AllByRecursion}
 use Rattle.drawing.specs.Drawing.{priority}
 use Rattle.kinds.specs.Kind.{Kind, Lawful}
-use Rattle.measured_planner.specs.declared.row.Row.{Row}
-use Rattle.measured_planner.specs.Plan.{rank_tree}
-use Rattle.measured_planner.specs.Rows.{row_of}
+use Rattle.planner.specs.declared.row.Row.{Row}
+use Rattle.planner.specs.Plan.{rank_tree}
+use Rattle.planner.specs.Rows.{row_of}
 use Rattle.image.specs.declared.settings.Settings.{Settings}
 use Rattle.image.specs.Image.{tree_block, tree_of}
 use Rattle.image.specs.Messages.{key_of, Messages}

@@ -3,8 +3,8 @@ use Rattle.std.specs.Prelude.{ℕ, ◌+◌, ◌*◌, Bool, ◌&&◌, List, ◌�
 use Rattle.std.specs.List.{flat_map}
 use Rattle.fields.specs.Numbers.{le, part}
 use Rattle.kinds.specs.Kind.{Kind}
-use Rattle.measured_planner.specs.declared.row.Row.{Row}
-use Rattle.measured_planner.specs.declared.row.SectionRow.{SectionRow}
+use Rattle.planner.specs.declared.row.Row.{Row}
+use Rattle.planner.specs.declared.row.SectionRow.{SectionRow}
 use Rattle.image.specs.Image.{record_of, block_from}
 use Rattle.image.specs.Reading.{every}
 use Rattle.image.specs.Settings.{alpha_fits}

@@ -1,36 +1,20 @@
 // A tree block, written from a row of a plan and the messages in key order.
-ghost use Rattle.std.specs.Prelude.{◌≡◌, ℕ, ◌+◌, ◌*◌, ◌≤◌, min, true, List, ◌++◌, length, take, if◌then◌else◌, count_ones};
+ghost use Rattle.std.specs.Prelude.{◌≡◌, ◌+◌, ◌*◌, ◌≤◌, min, true, length, take, if◌then◌else◌, count_ones, is_ok};
 ghost use Rattle.std.specs.List.{flat_map};
+ghost use Rattle.std.specs.Result.{result_err};
 ghost use Rattle.image.specs.Reading.{every};
-ghost use Rattle.rendering.specs.Laid.{Laid};
+ghost use Rattle.rendering.specs.Laid.{with_bytes};
+ghost use Rattle.rendering.specs.Refusals.{block_refusal};
 ghost use Rattle.rendering.specs.Rendered.{front_of, in_table, message_at, ranks_of, renderable, row_block, row_record};
+ghost use Rattle.rendering.specs.View.{bytes_of};
 
-use crate::append::append;
-use crate::table::{all_in_table, message};
-use fields::{u16_bytes, u32_bytes};
+use crate::draft::Draft;
+use crate::fault::BlockFault;
+use crate::table::Table;
+use fields::LittleEndian;
 use image::alpha_fits;
 use kinds::EntryKind;
-use measured_planner::row::{Row, SectionRow};
-
-// The first eight bytes of a block.
-fn front_bytes<K: EntryKind>(row: &Row) -> [u8; 8]
-    requires { row.now.count ≤ 16 }
-    ensures { result ≡ front_of K.kind row.now }
-{
-    let [m0, m1] = u16_bytes(row.mask);
-    let [w0, w1] = u16_bytes(row.weight);
-    let [p0, p1] = u16_bytes(row.parent);
-    [row.count as u8, K::kind_number(), m0, m1, w0, w1, p0, p1]
-}
-
-fn record_bytes(section: SectionRow) -> [u8; 8]
-    ensures { result ≡ row_record section }
-{
-    let [n0, n1] = u16_bytes(section.block);
-    let [w0, w1] = u16_bytes(section.weight);
-    let [m0, m1, m2, m3] = u32_bytes(section.measure);
-    [n0, n1, w0, w1, m0, m1, m2, m3]
-}
+use planner::row::{Row, SectionRow};
 
 // The ranks of the entries.
 fn ranks_of(row: &Row) -> &[u16]
@@ -47,58 +31,93 @@ fn sections_of(row: &Row) -> &[SectionRow]
     &row.sections[0..row.fan_out().min(17)]
 }
 
-fn can_render<K: EntryKind>(row: &Row, table: &[u8], alpha: usize) -> bool
-    ensures { result ≡ renderable K.kind alpha table.now row.now }
+// A block has places for all that the row says, and the table has its messages.
+fn check_row<K: EntryKind>(row: &Row, table: &Table<K>, alpha: usize) -> Result<(), BlockFault>
+    ensures { result_err result ≡ block_refusal K.kind alpha (bytes_of table.now) row.now }
 {
-    alpha_fits(K::message_width(), alpha)
-        && usize::from(row.count) <= alpha
-        && row.mask.count_ones() as usize <= alpha
-        && all_in_table::<K>(table, ranks_of(row))
+    if !alpha_fits(K::message_width(), alpha) {
+        return Err(BlockFault::AlphaOutOfLimits);
+    }
+    if usize::from(row.count) > alpha {
+        return Err(BlockFault::EntriesAboveAlpha);
+    }
+    if row.mask.count_ones() as usize > alpha {
+        return Err(BlockFault::SeparatorsAboveAlpha);
+    }
+    match table.first_missing(ranks_of(row)) {
+        Some(rank) => Err(BlockFault::NoMessage(rank)),
+        None => Ok(()),
+    }
 }
 
-// Writes the messages of some ranks one after the other; the answer is where they end.
-fn write_slots<K: EntryKind>(ranks: &[u16], table: &[u8], block: &mut [u8; 256], at: usize) -> usize
-    requires room { at + length ranks.now * K.kind.width ≤ 256 }
-    requires present { every (in_table K.kind table.now) ranks.now ≡ true }
-    ensures end { result ≡ at + length ranks.now * K.kind.width }
-    ensures laid { (front : List ℕ) → Laid front at block.old → Laid (front ++ flat_map (message_at K.kind table.now) ranks.now) result block.new }
+// The first eight bytes of a block.
+fn put_front<K: EntryKind>(draft: &mut Draft, row: &Row)
+    requires room { length draft.old.front + 8 ≤ 256 }
+    requires few { row.now.count ≤ 16 }
+    ensures { draft.new ≡ with_bytes draft.old (front_of K.kind row.now) }
 {
-    let mut end = at;
+    draft.put(&[row.count as u8, K::kind_number()]);
+    draft.put(&row.mask.to_bytes());
+    draft.put(&row.weight.to_bytes());
+    draft.put(&row.parent.to_bytes());
+}
+
+fn put_messages<K: EntryKind>(draft: &mut Draft, table: &Table<K>, ranks: &[u16])
+    requires room { length draft.old.front + length ranks.now * K.kind.width ≤ 256 }
+    requires present { every (in_table K.kind (bytes_of table.now)) ranks.now ≡ true }
+    ensures put { draft.new ≡ with_bytes draft.old (flat_map (message_at K.kind (bytes_of table.now)) ranks.now) }
+    ensures long { length draft.new.front ≡ length draft.old.front + length ranks.now * K.kind.width }
+{
     for rank in ranks {
-        end = append(block, end, message::<K>(table, *rank));
+        draft.put(table.message(*rank));
     }
-    end
 }
 
-// Writes the records of some sections one after the other; the answer is where they end.
-fn write_records(sections: &[SectionRow], block: &mut [u8; 256], at: usize) -> usize
-    requires room { at + length sections.now * 8 ≤ 256 }
-    ensures { (front : List ℕ) → Laid front at block.old → Laid (front ++ flat_map row_record sections.now) result block.new }
+fn put_record(draft: &mut Draft, section: SectionRow)
+    requires { length draft.old.front + 8 ≤ 256 }
+    ensures { draft.new ≡ with_bytes draft.old (row_record section) }
 {
-    let mut end = at;
+    draft.put(&section.block.to_bytes());
+    draft.put(&section.weight.to_bytes());
+    draft.put(&section.measure.to_bytes());
+}
+
+fn put_records(draft: &mut Draft, sections: &[SectionRow])
+    requires { length draft.old.front + length sections.now * 8 ≤ 256 }
+    ensures { draft.new ≡ with_bytes draft.old (flat_map row_record sections.now) }
+{
     for section in sections {
-        end = append(block, end, &record_bytes(*section));
+        put_record(draft, *section);
     }
-    end
+}
+
+fn write_row<K: EntryKind>(row: &Row, table: &Table<K>, alpha: usize, block: &mut [u8; 256])
+    requires { renderable K.kind alpha (bytes_of table.now) row.now ≡ true }
+    ensures { block.new ≡ row_block K.kind alpha (bytes_of table.now) row.now }
+{
+    let mut draft = Draft::over(block);
+    put_front::<K>(&mut draft, row);
+    put_messages(&mut draft, table, ranks_of(row));
+    draft.skip_to(8 + alpha * K::message_width());
+    put_records(&mut draft, sections_of(row));
+    draft.finish();
 }
 
 // Writes the block of a row of a plan, over a table of messages in key order. It is refused, and the block left as it was, if alpha
 // is out of its limits, the row has more entries or sections than a block has places, or the table lacks a message.
+#[tactic(auto, using(crate::proofs::Refusing::renders))]
 pub fn render_block<K: EntryKind>(
     row: &Row,
     table: &[u8],
     alpha: usize,
     block: &mut [u8; 256],
-) -> bool
-    ensures answer { result ≡ renderable K.kind alpha table.now row.now }
+) -> Result<(), BlockFault>
+    ensures answer { is_ok result ≡ renderable K.kind alpha table.now row.now }
+    ensures refusal { result_err result ≡ block_refusal K.kind alpha table.now row.now }
     ensures block { block.new ≡ (if renderable K.kind alpha table.now row.now then row_block K.kind alpha table.now row.now else block.old) }
 {
-    if !can_render::<K>(row, table, alpha) {
-        return false;
-    }
-    block.fill(0);
-    let slots = append(block, 0, &front_bytes::<K>(row));
-    write_slots::<K>(ranks_of(row), table, block, slots);
-    write_records(sections_of(row), block, slots + alpha * K::message_width());
-    true
+    let table = Table::<K>::new(table);
+    check_row(row, &table, alpha)?;
+    write_row(row, &table, alpha, block);
+    Ok(())
 }

@@ -3,12 +3,14 @@
 
 ghost use Rattle.rendering.specs.Laws.{PlansRenderImages};
 
-mod append;
 mod block;
+mod draft;
+mod fault;
 mod head;
 mod table;
 
 pub use block::render_block;
+pub use fault::{BlockFault, HeadFault};
 pub use head::render_head;
 
 // The rows of the plan of a set of messages render to the tree blocks of its image.

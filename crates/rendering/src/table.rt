@@ -1,37 +1,50 @@
 // A table of messages, one after the other in key order.
-ghost use Rattle.std.specs.Prelude.{◌≡◌};
-ghost use Rattle.image.specs.Reading.{every};
+ghost use Rattle.std.specs.Prelude.{◌≡◌, not};
+ghost use Rattle.std.specs.List.{find};
 ghost use Rattle.rendering.specs.Rendered.{in_table, message_at};
+ghost use Rattle.rendering.specs.View.{bytes_of};
 
 use fields::piece_at;
 use kinds::EntryKind;
+use std::marker::PhantomData;
 
-// The table has the message of a rank.
-fn in_table<K: EntryKind>(table: &[u8], rank: u16) -> bool
-    ensures { result ≡ in_table K.kind table.now rank }
-{
-    let width = K::message_width();
-    usize::from(rank)
-        .saturating_mul(width)
-        .saturating_add(width)
-        <= table.len()
+#[derive_where(Clone, Copy)]
+pub(crate) struct Table<'a, K> {
+    bytes: &'a [u8],
+    kind: PhantomData<K>,
 }
 
-// The table has the messages of all ranks.
-pub(crate) fn all_in_table<K: EntryKind>(table: &[u8], ranks: &[u16]) -> bool
-    ensures { result ≡ every (in_table K.kind table.now) ranks.now }
-{
-    for rank in ranks {
-        if !in_table::<K>(table, *rank) {
-            return false;
+impl<'a, K: EntryKind> Table<'a, K> {
+    pub(crate) fn new(bytes: &'a [u8]) -> Table<'a, K>
+        ensures { bytes_of result ≡ bytes.now }
+    {
+        Table {
+            bytes,
+            kind: PhantomData,
         }
     }
-    true
-}
 
-// The message of a rank.
-pub(crate) fn message<K: EntryKind>(table: &[u8], rank: u16) -> &[u8]
-    ensures { result.now ≡ message_at K.kind table.now rank }
-{
-    piece_at(table, 0, K::message_width(), usize::from(rank))
+    // The table has the message of a rank.
+    fn has(&self, rank: u16) -> bool
+        ensures { result ≡ in_table K.kind (bytes_of self.now) rank }
+    {
+        let width = K::message_width();
+        usize::from(rank)
+            .saturating_mul(width)
+            .saturating_add(width)
+            <= self.bytes.len()
+    }
+
+    // The first of the ranks that have no message.
+    pub(crate) fn first_missing(&self, ranks: &[u16]) -> Option<u16>
+        ensures { result ≡ find (λ rank. not (in_table K.kind (bytes_of self.now) rank)) ranks.now }
+    {
+        ranks.iter().copied().find(|rank| !self.has(*rank))
+    }
+
+    pub(crate) fn message(&self, rank: u16) -> &'a [u8]
+        ensures { result.now ≡ message_at K.kind (bytes_of self.now) rank }
+    {
+        piece_at(self.bytes, 0, K::message_width(), usize::from(rank))
+    }
 }
