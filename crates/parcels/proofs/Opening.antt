@@ -1,29 +1,14 @@
 -- How items are read one by one. Assumes nothing.
-use Rattle.std.proofs.Common.{◌≡◌, ℕ, suc, ◌-◌, ◌<◌, ◌≤◌, Bool, true, false, cond, eqb, leb, List, [], ◌∷◌, ◌++◌, length, get_or, take, drop, Some, None, Ok, Err, Option, Result, sym, refl, ap, ◌∙◌, subst, ap₂, arith}
+use Rattle.std.proofs.Common.{◌≡◌, ℕ, suc, ◌-◌, ◌<◌, ◌≤◌, Bool, true, false, cond, eqb, leb, List, [], ◌∷◌, ◌++◌, length, take, drop, Some, None, Ok, Err, Option, Result, sym, refl, ap, ◌∙◌, subst, ap₂, arith}
 use Rattle.std.specs.Result.{result_err, result_map_both}
-use Rattle.std.proofs.lemmas.Bool.{le-leb, leb-true, eqb-true, cond-true}
-use Rattle.std.proofs.lemmas.List.{take_rest, length-append, length-take-le, take-append-drop, nil_from_length}
+use Rattle.std.proofs.lemmas.Bool.{leb-true, eqb-true}
+use Rattle.std.proofs.lemmas.List.{length-append, length-take-le, take-append-drop, nil_from_length}
 use Rattle.fields.specs.Numbers.{Bytes}
 use Rattle.parcels.specs.Format.{ItemValue, message, note, encode_item, ItemFits}
 use Rattle.parcels.specs.Reading.{cut_item, read_note, read_item, read_items}
 
 pub none_some : {X : Type 0} {x : X} → None ≡ Some x → ⊥
 none_some e = let z : ◌≡◌ {A = ℕ} 0 1 = cc in omega arith
-
-cut_is : (k : ℕ) (item : List ℕ → ItemValue) (rest bs after : List ℕ) → k ≤ length rest → bs ≡ take k rest → after ≡ drop k rest → Some (item bs, after) ≡ cut_item k item rest
-cut_is k item rest bs after long front back =
-    (λ i. Some (item (front i), back i)) ∙ sym (cond-true _ _ _ (le-leb k (length rest) long))
-
--- a message as a slice pattern takes it off the front
-pub message_is : (width : ℕ) (bytes bs after : List ℕ) → 1 ≤ length bytes → get_or bytes 0 0 ≡ 1 → let rest = take (length bytes - 1) (drop 1 bytes) in width ≤ length rest → bs ≡ take width rest → after ≡ drop width rest → Some (message bs, after) ≡ read_item width bytes
-message_is width [] bs after some first long front back = absurd (omega arith)
-message_is width (b ∷ rest) bs after some first long front back = rw first (rw (take_rest (b ∷ rest) 1) at (cut_is width message _ bs after long front back))
-
--- a note, with its length n
-pub note_is : (width n : ℕ) (bytes bs after : List ℕ) → 2 ≤ length bytes → get_or bytes 0 0 ≡ 2 → n ≡ get_or bytes 1 0 → let rest = take (length bytes - 2) (drop 2 bytes) in n ≤ length rest → bs ≡ take n rest → after ≡ drop n rest → Some (note bs, after) ≡ read_item width bytes
-note_is width n [] bs after some first second long front back = absurd (omega arith)
-note_is width n (b ∷ []) bs after some first second long front back = absurd (omega arith)
-note_is width n (b ∷ m ∷ rest) bs after some first second long front back = rw (first, ← second) (rw (take_rest (b ∷ m ∷ rest) 2) at (cut_is n note _ bs after long front back))
 
 -- what a cut gives: an item of the first k bytes, and the bytes after them
 cut_from : (k : ℕ) (item : List ℕ → ItemValue) (bytes : List ℕ) (p : ItemValue × List ℕ) → cut_item k item bytes ≡ Some p → (k ≤ length bytes) × ((item (take k bytes), drop k bytes) ≡ p)

@@ -1,28 +1,10 @@
 -- The items of a parcel, one after the other. Assumes nothing.
-use Rattle.std.proofs.Common.{◌≡◌, ℕ, zero, suc, ◌+◌, ◌-◌, ◌<◌, List, [], ◌∷◌, length, take, drop, Some, None, Ok, Err, Option, Result, sym, refl, ap, ◌∙◌, arith, Bor}
+use Rattle.std.proofs.Common.{◌≡◌, ℕ, zero, suc, ◌-◌, List, [], ◌∷◌, length, take, drop, Some, None, Ok, Err, Option, Result, sym, refl, ap, ◌∙◌}
 use Rattle.std.specs.Result.{result_err, result_map_both}
 use Rattle.std.proofs.lemmas.List.{take_rest}
-use Rattle.parcels.specs.declared.item.Item.{Item}
-use Rattle.parcels.specs.declared.walk.Items.{Items}
 use Rattle.parcels.specs.Format.{ItemValue}
-use Rattle.parcels.specs.Meaning.{value_of, opened}
 use Rattle.parcels.specs.Reading.{read_item, read_items, item_then, front_then, front_items, header_refusal, read_parcel, chapter_of, count_of, for_chapter}
-use Rattle.parcels.specs.Walk.{numbered, to_come}
 use Rattle.parcels.proofs.Opening.{err_part_mapped, none_some}
-
--- where no item can be read, none is to come
-pub walk_none : (s : Items) → read_item s.width s.rest.now ≡ None → to_come s ≡ []
-walk_none s read = ap (numbered (s.passed + 1)) (front_none (s.count - s.passed) s.rest.now read)
-  where
-    front_none : (n : ℕ) (bytes : List ℕ) → read_item s.width bytes ≡ None → front_items s.width n bytes ≡ []
-    front_none zero bytes read = refl
-    front_none (suc n) bytes read = rw read
-
--- an item that is read is the first to come
-pub walk_more : (s : Items) (x : Item) (after : Bor (List ℕ)) → s.passed < s.count → read_item s.width s.rest.now ≡ Some (opened (x, after)) → to_come s ≡ (s.passed + 1, value_of x) ∷ to_come (record { rest = after; width = s.width; count = s.count; passed = s.passed + 1 })
-walk_more s x after more read =
-    let left : s.count - s.passed ≡ suc (s.count - (s.passed + 1)) = omega arith in
-    rw (left, read)
 
 -- items that are not refused are those at the front
 front_all : (width total n : ℕ) (bytes : List ℕ) → result_err (read_items width total n bytes) ≡ None → read_items width total n bytes ≡ Ok (front_items width n bytes)

@@ -1,5 +1,5 @@
 -- What the values of the code mean. Assumes nothing.
-use Rattle.std.specs.Prelude.{ℕ, List, Option, Result}
+use Rattle.std.specs.Prelude.{ℕ, List, ◌++◌, Option, Result, codes, decimal}
 use Rattle.std.specs.Borrow.{Bor}
 use Rattle.std.specs.Option.{option_map}
 use Rattle.std.specs.Result.{result_err}
@@ -29,3 +29,7 @@ value_of (Note bs) = note bs.now
 -- an item and the bytes after it
 abbrev pub opened : Item × Bor (List ℕ) → ItemValue × List ℕ
 opened p = (value_of p.0, p.1.now)
+
+-- two numbers as they are printed: in decimal, with a space between them
+abbrev pub numbers_shown : ℕ → ℕ → List ℕ
+numbers_shown m n = decimal m ++ (codes " " ++ decimal n)

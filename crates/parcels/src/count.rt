@@ -1,9 +1,11 @@
 // How many messages and notes a parcel has.
-ghost use Rattle.std.specs.Prelude.{◌≡◌};
+ghost use Rattle.std.specs.Prelude.{◌≡◌, Some};
+ghost use Rattle.parcels.specs.Meaning.{numbers_shown};
 ghost use Rattle.parcels.specs.Walk.{contents, messages_in, notes_in};
 
 use crate::item::Item;
 use crate::parcel::Parcel;
+use std::fmt;
 
 #[derive(Clone, Copy, PartialEq, Eq, Debug)]
 pub struct Counts {
@@ -25,5 +27,16 @@ impl Parcel<'_> {
             }
         }
         Counts { messages, notes }
+    }
+}
+
+// The messages, then the notes.
+impl fmt::Display for Counts {
+    ghost output = { λ counts. Some (numbers_shown counts.messages counts.notes) };
+
+    fn fmt<W: fmt::Write>(&self, f: &mut fmt::Formatter<W>) -> fmt::Result {
+        let messages = self.messages;
+        let notes = self.notes;
+        write!(f, "{messages} {notes}")
     }
 }

@@ -1,6 +1,8 @@
 // Why a parcel is refused.
-ghost use Rattle.std.specs.Prelude.{◌≡◌};
-ghost use Rattle.parcels.specs.Meaning.{coded};
+ghost use Rattle.std.specs.Prelude.{◌≡◌, Some};
+ghost use Rattle.parcels.specs.Meaning.{coded, numbers_shown};
+
+use std::fmt;
 
 // The cases in the order in which they are tested; `coded` has the number and the place of each.
 #[derive(Clone, Copy, PartialEq, Eq, Debug)]
@@ -14,6 +16,7 @@ pub enum ParcelFault {
     BadItem(usize),
 }
 
+// The two columns of the table `coded`: a conversion into a pair of numbers would leave them without names.
 impl ParcelFault {
     pub fn number(&self) -> u8
         ensures { result ≡ (coded self.now).0 }
@@ -35,5 +38,16 @@ impl ParcelFault {
             ParcelFault::Kind => 5,
             ParcelFault::BadItem(at) => *at,
         }
+    }
+}
+
+// Number and place.
+impl fmt::Display for ParcelFault {
+    ghost output = { λ fault. Some (numbers_shown (coded fault).0 (coded fault).1) };
+
+    fn fmt<W: fmt::Write>(&self, f: &mut fmt::Formatter<W>) -> fmt::Result {
+        let number = self.number();
+        let place = self.place();
+        write!(f, "{number} {place}")
     }
 }

@@ -4,6 +4,7 @@ ghost use Rattle.parcels.specs.Meaning.{refusal};
 ghost use Rattle.parcels.specs.Reading.{header_refusal};
 
 use crate::fault::ParcelFault;
+use fields::LittleEndian;
 
 pub(crate) const LENGTH: usize = 12;
 
@@ -19,7 +20,7 @@ pub(crate) fn test_header(bytes: &[u8], kind: u8) -> Result<(), ParcelFault>
     let [b'P', b'C', b'L', ..] = bytes else {
         return Err(ParcelFault::Mark);
     };
-    if fields::u16_at(bytes, 3) != VERSION {
+    if u16::read_at(bytes, 3) != VERSION {
         return Err(ParcelFault::Version);
     }
     if bytes[5] != kind {

@@ -9,6 +9,7 @@ use crate::fault::ParcelFault;
 use crate::header::{LENGTH, test_header};
 use crate::items::test_items;
 use crate::walk::Items;
+use fields::LittleEndian;
 
 // It borrows its bytes, of which it keeps those of the items.
 #[derive(Clone, Copy, Debug)]
@@ -20,16 +21,17 @@ pub struct Parcel<'a> {
 }
 
 impl<'a> Parcel<'a> {
-    // The parcel that the bytes are, for a kind and its message width, or the refusal.
+    // The parcel that the bytes are, for a kind and its message width, or the refusal. The two are any numbers: a type of one kind
+    // would shut out callers that read parcels of a kind of their own.
     pub fn read(bytes: &'a [u8], kind: u8, width: usize) -> Result<Parcel<'a>, ParcelFault>
         ensures answer { result_map_both contents coded result ≡ read_parcel kind width bytes.now }
         ensures written { AcceptsWritten kind width bytes.now (result_map_both contents coded result) }
     {
         test_header(bytes, kind)?;
         let items = &bytes[LENGTH..];
-        let count = fields::u16_at(bytes, 10);
+        let count = u16::read_at(bytes, 10);
         test_items(items, bytes.len(), count, width)?;
-        let chapter = fields::u32_at(bytes, 6);
+        let chapter = u32::read_at(bytes, 6);
         Ok(Parcel {
             chapter,
             count,

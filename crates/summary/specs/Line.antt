@@ -1,12 +1,13 @@
 -- The line that the program prints for its input. Assumes nothing.
-use Rattle.std.specs.Prelude.{ℕ, List, ◌++◌, Ok, Err, codes, decimal, Result}
+use Rattle.std.specs.Prelude.{ℕ, List, ◌++◌, Ok, Err, codes, Result}
 use Rattle.parcels.specs.Format.{Contents}
+use Rattle.parcels.specs.Meaning.{numbers_shown}
 use Rattle.parcels.specs.Reading.{read_parcel}
 use Rattle.parcels.specs.Walk.{messages_in, notes_in}
 
--- two numbers in decimal, a space between them, and the line's end
+-- two numbers as they are printed, and the line's end
 abbrev pub pair_line : ℕ → ℕ → List ℕ
-pair_line m n = decimal m ++ (codes " " ++ (decimal n ++ codes "\n"))
+pair_line m n = numbers_shown m n ++ codes "\n"
 
 -- how many messages and notes were accepted, or the number and place of the refusal
 abbrev pub answer_line : Result Contents (ℕ × ℕ) → List ℕ

@@ -1,6 +1,6 @@
 use Rattle.std.proofs.Common.{ap, ◌∙◌}
 use Rattle.parcels.specs.Walk.{to_come}
-use Rattle.parcels.proofs.Counting.{counted_none, counted_fits, message_counted, note_counted, counted_all}
+use Rattle.parcels.proofs.Counting.{counted_none, counted_fits, message_counted, note_counted}
 use Rattle.parcels.proofs.parcel.Parcel.counts.Goals as goal
 
 pub loop-item-init : goal.loop-item-init
@@ -11,9 +11,3 @@ overflow_add-messages c = record { fits = (counted_fits (message_counted c.loop-
 
 pub overflow_add-notes : goal.overflow_add-notes
 overflow_add-notes c = record { fits = (counted_fits (note_counted c.loop-item.invariant.2 (rw c.in-Note.is at c.in-Some.ensures.steps))).1 }
-
-pub loop-item-preserved : goal.loop-item-preserved
-loop-item-preserved c = (tt, tt, note_counted c.loop-item.invariant.2 (rw c.in-Note.is at c.in-Some.ensures.steps))
-
-pub returns : goal.returns
-returns c = counted_all c.loop-item.invariant.2 c.in-None.ensures.steps.0
