@@ -45,7 +45,8 @@ number-part at k bs = rw add-one (from at k bs)
     from zero k (b ∷ bs) = refl
     from (suc at) k (b ∷ bs) = from at k bs
 
-byte_lt : (bs : List ℕ) (i : ℕ) → Bytes bs → get_or bs i 0 < 256
+-- a byte of bytes, there or not
+pub byte_lt : (bs : List ℕ) (i : ℕ) → Bytes bs → get_or bs i 0 < 256
 byte_lt [] i h = omega arith
 byte_lt (b ∷ bs) zero h = h.0
 byte_lt (b ∷ bs) (suc i) h = byte_lt bs i h.1

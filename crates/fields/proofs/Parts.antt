@@ -1,8 +1,7 @@
 -- Parts of a list that is made of pieces of one length. Assumes nothing.
-use Rattle.std.proofs.Common.{◌≡◌, ℕ, zero, suc, ◌+◌, ◌*◌, ◌<◌, min, List, [], ◌∷◌, ◌++◌, length, get_or, take, drop, sym, ap, ◌∙◌, ⊎_elim, append_assoc, suc-mul, add_comm, zero-mul, arith}
+use Rattle.std.proofs.Common.{◌≡◌, ℕ, zero, suc, ◌+◌, ◌*◌, ◌<◌, List, [], ◌∷◌, ◌++◌, length, get_or, take, drop, sym, ap, ◌∙◌, append_assoc, suc-mul, add_comm, zero-mul, arith}
 use Rattle.std.specs.List.{flat_map, AllByRecursion}
-use Rattle.std.proofs.lemmas.List.{length-append, take_at, take_all, drop_at, drop-drop}
-use Rattle.std.proofs.lemmas.Bool.{cases_lt}
+use Rattle.std.proofs.lemmas.List.{length-append, take_at, drop_at, drop-drop}
 use Rattle.fields.specs.Numbers.{part}
 
 -- a part past n elements is a part of what lies after them
@@ -24,7 +23,3 @@ module _ {X Y : Type 0} (f : X → List Y) (w : ℕ) where
   part_joined (x ∷ xs) rest h (suc i) d lt =
       let at : suc i * w ≡ w + i * w = suc-mul i w ∙ add_comm (i * w) w in
       rw (at, append_assoc) (part_past w (i * w) w (f x ++ (flat_map f xs ++ rest)) ∙ ap (part (i * w) w) (drop_at (f x) (flat_map f xs ++ rest) w h.0) ∙ part_joined xs rest h.1 i d (omega arith))
-
--- the front of a list of k elements, cut to what there is
-pub take-cut : {X : Type 0} (xs : List X) (n m k : ℕ) → length xs ≡ k → m ≡ min n k → take m xs ≡ take n xs
-take-cut xs n m k long is = ⊎_elim (λ less. ap (λ l. take l xs) (omega (arith, is))) (λ more. take_all m xs (omega (arith, long, is)) ∙ sym (take_all n xs (omega (arith, long)))) (cases_lt n k)

@@ -16,6 +16,7 @@ pub trait LittleEndian<const N: usize>: Copy {
     fn to_bytes(self) -> [u8; N]
         ensures { result ≡ le N (value self) };
 
+    // An array of N bytes can be made: any bound below 2 ^ 63 would do.
     ghost narrow: { N ≤ 16 };
 
     // The number in the N bytes from an offset on; bytes that are not there count as 0.

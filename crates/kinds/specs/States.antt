@@ -13,6 +13,6 @@ state_number Cut = 2
 abbrev pub state_of : ℕ → State
 state_of number = cond (is_set number) Set Cut
 
--- the result is the state with this number, or an error with a number that no state has
+-- the result is the state with this number; or an error that holds the number, where no state has it
 abbrev pub IsStateOf : ℕ → Result State UnknownState → Type 0
 IsStateOf number r = MatchResult r (λ state. state_number state ≡ number) (λ e. (e.0 ≡ number) × (is_state number ≡ false))

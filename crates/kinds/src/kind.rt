@@ -27,7 +27,7 @@ pub trait EntryKind {
     fn measure(message: &[u8]) -> u16
         ensures { result ≡ kind.measured message.now };
 
-    // Keys may compare by more than fields, so each kind says how.
+    // Keys and ranks may compare by more than fields, so each kind says how.
     fn compare_keys(a: &[u8], b: &[u8]) -> Ordering
         ensures { result ≡ kind.key_order a.now b.now };
 
@@ -40,6 +40,7 @@ pub trait EntryKind {
     // The constants are the kind's.
     ghost constants: { (NUMBER ≡ kind.number) × (WIDTH ≡ kind.width) × (KEY_LENGTH ≡ kind.key_width) };
 
+    // The three numbers for generic code, whose clauses speak of the kind and not of the constants.
     final fn kind_number() -> u8
         ensures { result ≡ kind.number }
     {

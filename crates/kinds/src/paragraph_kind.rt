@@ -3,7 +3,7 @@ ghost use Rattle.kinds.specs.Paragraphs.{paragraphs, paragraph_key, paragraph_ra
 ghost use Rattle.std.specs.Prelude.{refl};
 ghost use Rattle.std.proofs.Common.{arith, lit≤};
 ghost use Rattle.layout.proofs.Determined.{total_keys, total_ranks};
-ghost use Rattle.layout.proofs.Fields.{byte_below};
+ghost use Rattle.fields.proofs.Numbers.{byte_lt};
 
 use crate::kind::EntryKind;
 use crate::rules;
@@ -62,7 +62,7 @@ impl EntryKind for Paragraphs {
       key_high = lit≤ tt;
       keys = total_keys paragraph_key 5 refl;
       ranks = total_ranks paragraph_rank 5 16 refl;
-      measure = λ m h. let below = byte_below m 7 h in omega arith;
+      measure = λ m h. let below = byte_lt m 7 h in omega arith;
     } };
 
     ghost constants = { (refl, refl, refl) };

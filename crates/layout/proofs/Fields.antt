@@ -1,19 +1,12 @@
--- Fields of a message: reading four bytes, the step of an order by fields, of a list of tests. Assumes nothing.
-use Rattle.std.proofs.Common.{◌≡◌, ℕ, zero, suc, ◌<◌, not, Bool, true, false, cond, List, [], ◌∷◌, map, get_or, is_some, Some, Option, Ordering, Less, Equal, Greater, sym, refl, ap, ◌∙◌, ⊎_elim, arith}
+-- Fields of a message: the step of an order by fields, of a list of tests. Assumes nothing.
+use Rattle.std.proofs.Common.{◌≡◌, ℕ, not, Bool, true, false, cond, List, [], ◌∷◌, map, is_some, Some, Option, Ordering, Less, Equal, Greater, sym, refl, ap, ◌∙◌, ⊎_elim}
 use Rattle.std.proofs.lemmas.Bool.{true≢false, cases_Bool, cond-true, cond-false}
 use Rattle.std.specs.Ordering.{nat_cmp as compared}
 use Rattle.std.specs.Ordering.{is_ne, ordering_then}
 use Rattle.std.specs.List.{AllByRecursion, find}
 use Rattle.std.specs.Option.{option_map, unwrap_or}
-use Rattle.fields.specs.Numbers.{Bytes}
 use Rattle.layout.specs.Layout.{by_fields, first_invalid, value}
 use Rattle.layout.specs.declared.Field.{Field}
-
--- a byte of bytes, there or not
-pub byte_below : (bs : List ℕ) (i : ℕ) → Bytes bs → get_or bs i 0 < 256
-byte_below [] i h = omega arith
-byte_below (b ∷ bs) zero h = h.0
-byte_below (b ∷ bs) (suc i) h = byte_below bs i h.1
 
 first_then : (order : Ordering) (orders : List Ordering) → unwrap_or (find is_ne (order ∷ orders)) Equal ≡ ordering_then order (unwrap_or (find is_ne orders) Equal)
 first_then Less orders = refl

@@ -46,7 +46,8 @@ pub fn compare_fields(a: &[u8], b: &[u8], fields: &[Field]) -> Ordering
         .unwrap_or(Ordering::Equal)
 }
 
-// The first offset whose test failed. A test is a pair, an offset and whether the field there is valid, as in the rules.
+// The first offset whose test failed. A test is a pair, an offset and whether the field there is valid, as in the rules: a row of
+// a table, which a type of two fields would make no plainer.
 pub fn first_invalid(tests: &[(usize, bool)]) -> Option<usize>
     ensures { result ≡ first_invalid tests.now }
 {

@@ -5,6 +5,7 @@ use crate::message::{Fields, Message};
 use fields::{LittleEndian, byte_at};
 use kinds::{Paragraphs, State};
 
+// Lines and text stand beside the state, also for a cut, where they are 0: a value may hold what is not valid.
 #[derive(Clone, Copy, PartialEq, Eq, Debug)]
 pub struct Paragraph {
     pub place: u32,

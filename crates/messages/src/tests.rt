@@ -1,6 +1,8 @@
 // Messages written from the offsets of their fields, and values that are no message.
 use super::*;
 use kinds::{IndexMarks, Paragraphs};
+use std::fmt::Debug;
+use std::process::Abort;
 
 const PARAGRAPH: Paragraph = Paragraph {
     place: 0x0102_0304,
@@ -28,10 +30,19 @@ const MARK: IndexMark = IndexMark {
 const MARK_BYTES: [u8; 28] =
     *b"Ox yoke\0\0\0\0\0\0\0\0\0\x04\x03\x02\x01\x01\xfa\x01\x01\x0d\x0c\x0b\x0a";
 
+// A value is written in these bytes, and they are read as the value.
+fn both_ways<const N: usize, T: Message<N> + Copy + PartialEq + Debug>(
+    rt: &impl Abort,
+    value: T,
+    bytes: [u8; N],
+) {
+    assert_eq!(rt; value.encode(), bytes);
+    assert_eq!(rt; T::decode(&bytes), Some(value));
+}
+
 #[test]
 fn a_paragraph_and_its_message(rt: HostRuntime) {
-    assert_eq!(rt; PARAGRAPH.encode(), PARAGRAPH_BYTES);
-    assert_eq!(rt; Paragraph::decode(&PARAGRAPH_BYTES), Some(PARAGRAPH));
+    both_ways(&rt, PARAGRAPH, PARAGRAPH_BYTES);
 }
 
 #[test]
@@ -61,8 +72,7 @@ fn what_is_no_paragraph(rt: HostRuntime) {
 
 #[test]
 fn a_mark_and_its_message(rt: HostRuntime) {
-    assert_eq!(rt; MARK.encode(), MARK_BYTES);
-    assert_eq!(rt; IndexMark::decode(&MARK_BYTES), Some(MARK));
+    both_ways(&rt, MARK, MARK_BYTES);
 }
 
 #[test]

@@ -1,12 +1,6 @@
-use Rattle.std.proofs.Common.{◌≡◌, ◌++◌, length, replicate, sym, refl, ap, ◌∙◌, ap₂, rules}
-use Rattle.std.proofs.lemmas.List.{length-append}
+use Rattle.std.proofs.Common.{◌≡◌, ◌++◌, length, replicate, sym, refl, ap, ◌∙◌, ap₂}
 use Rattle.messages.proofs.Parts.{put_last}
 use Rattle.messages.proofs.mark_message.joined.Goals as goal
-
-pub slice_bounds-message-end-2 : goal.slice_bounds-message-end-2
-slice_bounds-message-end-2 c =
-    let wide = length-append c.copy_from_slice.new.self (replicate 12 0) in
-    search (rules, wide)
 
 pub returns : goal.returns
 returns c =
