@@ -1,17 +1,13 @@
 -- A test of each element of a list. Assumes nothing.
-use Rattle.std.proofs.Common.{◌≡◌, ℕ, ◌<◌, Bool, true, ◌&&◌, List, [], ◌∷◌, length, get_or, refl}
+use Rattle.std.proofs.Common.{◌≡◌, Bool, true, ◌&&◌, List, [], ◌∷◌, refl}
 use Rattle.std.specs.List.{AllByRecursion, list_all}
-use Rattle.std.proofs.lemmas.List.Recursion.{and_at, same_from_clauses}
+use Rattle.std.proofs.lemmas.List.Recursion.{same_from_clauses}
 use Rattle.std.proofs.lemmas.Bool.{and_from}
 use Rattle.image.specs.Reading.{every}
 
 -- a test of each is that of a chain's `all`
 pub every_is : {X : Type 0} (test : X → Bool) (xs : List X) → every test xs ≡ list_all test xs
 every_is test = same_from_clauses (every test) (list_all test) (λ x rest. test x && rest) refl (λ _ _. refl) (λ _ _. refl)
-
--- what is true of each is true of the one at i
-pub every_at : {X : Type 0} (test : X → Bool) (xs : List X) (i : ℕ) (d : X) → i < length xs → every test xs ≡ true → test (get_or xs i d) ≡ true
-every_at test = and_at (every test) test refl (λ _ _. refl)
 
 -- and the other way round
 pub every_true : {X : Type 0} (test : X → Bool) (xs : List X) → AllByRecursion (λ x. test x ≡ true) xs → every test xs ≡ true

@@ -1,4 +1,5 @@
 pub mod Settings
+pub mod Refusals
 pub mod Messages
 pub mod Image
 pub mod Reading

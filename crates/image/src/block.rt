@@ -85,6 +85,7 @@ impl<'a, K: EntryKind> TreeBlock<'a, K> {
     }
 
     // The messages of the entries, in the order of their slots.
+    #[tactic(auto, using(crate::proofs::Stepping::count_of))]
     pub fn slots(&self) -> Slots<'a, K>
         ensures messages { messages_to_come K.kind result ≡ slots K.kind (bytes_of self.now) }
         ensures few { length (slots K.kind (bytes_of self.now)) ≤ 255 }
@@ -96,6 +97,7 @@ impl<'a, K: EntryKind> TreeBlock<'a, K> {
     }
 
     // What the records of the sections say, in order.
+    #[tactic(auto, using(crate::proofs::Stepping::count_of))]
     pub fn sections(&self) -> Sections<'a, K>
         ensures sections { sections_to_come K.kind result ≡ sections_of K.kind (alpha_of self.now) (bytes_of self.now) }
         ensures few { length (sections_of K.kind (alpha_of self.now) (bytes_of self.now)) ≤ 17 }

@@ -1,8 +1,9 @@
 // What block 0 says of a chapter.
 ghost use Rattle.std.specs.Prelude.{◌≡◌};
 ghost use Rattle.image.specs.Reading.{head_fields, head_right, head_sound, is_chapter, read_head};
+ghost use Rattle.image.specs.Refusals.{head_refusal};
 
-use crate::settings::Settings;
+use crate::settings::{Setting, Settings};
 use fields::{LittleEndian, byte_at, slice_at};
 use kinds::EntryKind;
 
@@ -18,6 +19,15 @@ pub struct Head {
     pub settings: Settings,
     pub counts: Counts,
     pub chapter: u32,
+}
+
+// What is wrong with a head. The cases stand in the order in which they are tested.
+#[derive(Clone, Copy, PartialEq, Eq, Debug)]
+pub enum HeadFault {
+    // The first setting that is out of its limits.
+    OutOfLimits(Setting),
+    EntriesAboveCapacity,
+    BlocksAboveEntries,
 }
 
 // The first three bytes of every head, and the number after them.
@@ -61,13 +71,27 @@ fn is_head<K: EntryKind>(block: &[u8]) -> bool
 }
 
 impl Head {
+    // The first thing that is wrong with it, for messages of the width.
+    pub fn fault(&self, width: usize) -> Option<HeadFault>
+        ensures { result ≡ head_refusal width self.now }
+    {
+        if let Some(setting) = self.settings.out_of_limits(width) {
+            return Some(HeadFault::OutOfLimits(setting));
+        }
+        if self.counts.entries > self.settings.capacity {
+            return Some(HeadFault::EntriesAboveCapacity);
+        }
+        if self.counts.blocks > self.counts.entries {
+            return Some(HeadFault::BlocksAboveEntries);
+        }
+        None
+    }
+
     // Its settings are within their limits, and its counts within those.
     pub fn is_sound(&self, width: usize) -> bool
         ensures { result ≡ head_sound width self.now }
     {
-        self.settings.fit(width)
-            && self.counts.entries <= self.settings.capacity
-            && self.counts.blocks <= self.counts.entries
+        self.fault(width).is_none()
     }
 
     // What block 0 says, or none where it is not the head of a chapter of the kind.

@@ -10,7 +10,7 @@ mod settings;
 ghost use Rattle.image.specs.Laws.{HeadReadsBack, TreeBlockReadsBack, ImageReadsBack};
 
 pub use block::{TreeBlock, key_of};
-pub use head::{Counts, Head, MARK, VERSION};
+pub use head::{Counts, Head, HeadFault, MARK, VERSION};
 pub use parts::{Sections, Slots};
 pub use section::SectionFields;
 pub use settings::{Setting, Settings, alpha_fits};

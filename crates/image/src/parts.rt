@@ -1,4 +1,5 @@
-// The messages and the sections of a tree block, gone through in order.
+// The messages and the sections of a tree block, gone through in order: types with names, since a function cannot answer `impl
+// Iterator`.
 ghost use Rattle.std.specs.Prelude.{◌≡◌};
 ghost use Rattle.std.specs.Iterator.{YieldsFirst, YieldsFirstRef, item_count};
 ghost use Rattle.image.specs.Parts.{messages_to_come, sections_to_come};

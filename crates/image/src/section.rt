@@ -24,6 +24,7 @@ impl SectionFields {
     pub fn is_sound(&self, tree_blocks: usize, from: usize) -> bool
         ensures { result ≡ section_sound tree_blocks from self.now }
     {
+        // Two comparisons and no range, since the number after `from` could overflow.
         let leads_on = self
             .block()
             .map(usize::from)
