@@ -1,6 +1,6 @@
 // A chapter of seven paragraphs with 3 slots to a block: its head and its root, as a separate model laid them down; and what
 // makes the one wrong and the other malformed.
-use image::{Head, Setting, Settings, TreeBlock};
+use image::{Counts, Head, SectionFields, Setting, Settings, TreeBlock};
 use kinds::Paragraphs;
 use std::alloc::{AllocError, Global};
 use std::test::Fail;
@@ -46,30 +46,35 @@ const MALFORMED: [(usize, u8); 9] = [
     (63, 0xff),
 ];
 
-// The bytes with zeros after them up to a block, and the byte at an offset replaced.
-fn block(heap: Global, bytes: &[u8], at: usize, byte: u8) -> Result<Vec<u8>, AllocError> {
+// The bytes with zeros after them up to a block, and a byte replaced, if one is to be: its offset and what stands there instead.
+fn block(heap: Global, bytes: &[u8], change: Option<(usize, u8)>) -> Result<Vec<u8>, AllocError> {
     (0..256)
-        .map(|i| {
-            if i == at {
-                byte
-            } else {
-                fields::byte_at(bytes, i)
-            }
+        .map(|i| match change {
+            Some((at, byte)) if at == i => byte,
+            _ => fields::byte_at(bytes, i),
         })
         .collect(heap)
 }
 
 #[test]
 fn heads(rt: HostRuntime) -> Result<(), Fail> {
-    let right = block(rt.alloc(), &HEAD, 300, 0)?;
-    let Some(head) = Head::read::<Paragraphs>(right.as_slice()) else {
-        return Err(Fail::new("the head is right"));
+    let right = block(rt.alloc(), &HEAD, None)?;
+    let head = Head {
+        settings: Settings {
+            alpha: 3,
+            rho: 1,
+            capacity: 15,
+        },
+        counts: Counts {
+            entries: 7,
+            blocks: 4,
+            measure: 615,
+        },
+        chapter: 47_289_548,
     };
-    assert!(rt; head.settings.alpha == 3 && head.settings.rho == 1 && head.settings.capacity == 15);
-    assert!(rt; head.counts.entries == 7 && head.counts.blocks == 4 && head.counts.measure == 615);
-    assert!(rt; head.chapter == 47_289_548);
-    for (at, byte) in WRONG {
-        let wrong = block(rt.alloc(), &HEAD, at, byte)?;
+    assert_eq!(rt; Head::read::<Paragraphs>(right.as_slice()), Some(head));
+    for change in WRONG {
+        let wrong = block(rt.alloc(), &HEAD, Some(change))?;
         assert!(rt; Head::read::<Paragraphs>(wrong.as_slice()).is_none());
     }
     Ok(())
@@ -77,23 +82,27 @@ fn heads(rt: HostRuntime) -> Result<(), Fail> {
 
 #[test]
 fn roots(rt: HostRuntime) -> Result<(), Fail> {
-    let bytes = block(rt.alloc(), &ROOT, 300, 0)?;
+    let bytes = block(rt.alloc(), &ROOT, None)?;
     let root = TreeBlock::<Paragraphs>::new(bytes.as_slice(), 3);
     assert!(rt; root.is_well_formed(4, 1));
-    assert!(rt; root.entries() == 3 && root.section_count() == 4);
-    assert!(rt;
-        root.section(2).number == 3 && root.section(2).weight == 2 && root.section(2).measure == 149
+    assert_eq!(rt; (root.entries(), root.section_count()), (3, 4));
+    assert_eq!(rt;
+        root.section(2),
+        SectionFields {
+            number: 3,
+            weight: 2,
+            measure: 149,
+        }
     );
-    assert!(rt; root.slots().count() == 3 && root.sections().count() == 4);
-    assert!(rt; root.find(&[10, 0, 0, 0, 2]).is_some() && root.find(&[9, 0, 0, 0, 2]).is_none());
-    assert!(rt;
-        root.section_for(&[9, 0, 0, 0, 2]) == 1 && root.next_block(&[9, 0, 0, 0, 2]) == Some(2)
-    );
-    assert!(rt;
-        root.section_for(&[7, 0, 0, 0, 1]) == 0 && root.next_block(&[40, 0, 0, 0, 1]) == Some(4)
-    );
-    for (at, byte) in MALFORMED {
-        let bad = block(rt.alloc(), &ROOT, at, byte)?;
+    assert_eq!(rt; (root.slots().count(), root.sections().count()), (3, 4));
+    assert!(rt; root.find(&[10, 0, 0, 0, 2]).is_some());
+    assert!(rt; root.find(&[9, 0, 0, 0, 2]).is_none());
+    assert_eq!(rt; root.section_for(&[9, 0, 0, 0, 2]), 1);
+    assert_eq!(rt; root.next_block(&[9, 0, 0, 0, 2]), Some(2));
+    assert_eq!(rt; root.section_for(&[7, 0, 0, 0, 1]), 0);
+    assert_eq!(rt; root.next_block(&[40, 0, 0, 0, 1]), Some(4));
+    for change in MALFORMED {
+        let bad = block(rt.alloc(), &ROOT, Some(change))?;
         assert!(rt; !TreeBlock::<Paragraphs>::new(bad.as_slice(), 3).is_well_formed(4, 1));
     }
     Ok(())
@@ -101,15 +110,12 @@ fn roots(rt: HostRuntime) -> Result<(), Fail> {
 
 #[test]
 fn measures(rt: HostRuntime) -> Result<(), Fail> {
-    let bytes = block(rt.alloc(), &ROOT, 300, 0)?;
+    let bytes = block(rt.alloc(), &ROOT, None)?;
     let root = TreeBlock::<Paragraphs>::new(bytes.as_slice(), 3);
-    assert!(rt;
-        root.measure_before(&[7, 0, 0, 0, 1]) == 0 && root.measure_before(&[10, 0, 0, 0, 2]) == 0
-    );
-    assert!(rt;
-        root.measure_before(&[11, 0, 0, 0, 2]) == 265
-            && root.measure_before(&[40, 0, 0, 0, 1]) == 444
-    );
+    assert_eq!(rt; root.measure_before(&[7, 0, 0, 0, 1]), 0);
+    assert_eq!(rt; root.measure_before(&[10, 0, 0, 0, 2]), 0);
+    assert_eq!(rt; root.measure_before(&[11, 0, 0, 0, 2]), 265);
+    assert_eq!(rt; root.measure_before(&[40, 0, 0, 0, 1]), 444);
     Ok(())
 }
 
@@ -121,6 +127,6 @@ fn limits(rt: HostRuntime) {
         capacity: 2_000,
     };
     assert!(rt; at.fit(16));
-    assert!(rt; matches!(at.out_of_limits(17), Some(Setting::Alpha)));
+    assert_eq!(rt; at.out_of_limits(17), Some(Setting::Alpha));
     assert!(rt; !at.fit(28));
 }

@@ -25,6 +25,32 @@ fn with_byte<const N: usize>(
     message
 }
 
+// The offset of a byte that is changed, its value, and the offset of the first field that is then invalid, if one is.
+type Edge = (usize, u8, Option<usize>);
+
+// The message with each of these changes has that invalid field.
+fn edges<K: EntryKind, const N: usize>(rt: &impl Abort, message: [u8; N], cases: &[Edge]) {
+    for (at, byte, expected) in cases {
+        let changed = with_byte(rt, message, *at, *byte);
+        assert_eq!(rt; K::invalid_at(&changed), *expected);
+    }
+}
+
+// Every two of some bytes are ordered as they stand.
+fn ascend<const N: usize, F: Fn(&[u8], &[u8]) -> Ordering>(
+    rt: &impl Abort,
+    ascending: &[[u8; N]],
+    compare: F,
+)
+    requires { F.IsAlwaysCallable compare }
+{
+    for (i, a) in ascending.iter().enumerate() {
+        for (j, b) in ascending.iter().enumerate() {
+            assert_eq!(rt; compare(a, b), i.cmp(&j));
+        }
+    }
+}
+
 #[test]
 fn states_and_their_numbers(rt: HostRuntime) {
     assert_eq!(rt; (u8::from(State::Set), u8::from(State::Cut)), (1, 2));
@@ -73,8 +99,7 @@ fn numbers_and_widths(rt: HostRuntime) {
 
 #[test]
 fn edges_of_a_set_paragraph(rt: HostRuntime) {
-    // offset of the byte that is changed, its value, the offset of the first invalid field
-    let cases: [(usize, u8, Option<usize>); 20] = [
+    let cases: [Edge; 20] = [
         (0, 255, None),
         (3, 255, None),
         (4, 0, Some(4)),
@@ -96,15 +121,12 @@ fn edges_of_a_set_paragraph(rt: HostRuntime) {
         (12, 1, None),
         (15, 255, None),
     ];
-    for (at, byte, expected) in cases {
-        let message = with_byte(&rt, SET_PARAGRAPH, at, byte);
-        assert_eq!(rt; Paragraphs::invalid_at(&message), expected);
-    }
+    edges::<Paragraphs, _>(&rt, SET_PARAGRAPH, &cases);
 }
 
 #[test]
 fn edges_of_a_cut_paragraph(rt: HostRuntime) {
-    let cases: [(usize, u8, Option<usize>); 7] = [
+    let cases: [Edge; 7] = [
         (6, 2, None),
         (6, 1, Some(7)),
         (7, 1, Some(7)),
@@ -113,15 +135,12 @@ fn edges_of_a_cut_paragraph(rt: HostRuntime) {
         (8, 255, None),
         (4, 251, Some(4)),
     ];
-    for (at, byte, expected) in cases {
-        let message = with_byte(&rt, CUT_PARAGRAPH, at, byte);
-        assert_eq!(rt; Paragraphs::invalid_at(&message), expected);
-    }
+    edges::<Paragraphs, _>(&rt, CUT_PARAGRAPH, &cases);
 }
 
 #[test]
 fn edges_of_a_set_mark(rt: HostRuntime) {
-    let cases: [(usize, u8, Option<usize>); 24] = [
+    let cases: [Edge; 24] = [
         (0, 0, Some(0)),
         (0, 0x1f, Some(0)),
         (0, 0x20, Some(0)),
@@ -147,10 +166,7 @@ fn edges_of_a_set_mark(rt: HostRuntime) {
         (23, 2, Some(23)),
         (27, 255, None),
     ];
-    for (at, byte, expected) in cases {
-        let message = with_byte(&rt, SET_MARK, at, byte);
-        assert_eq!(rt; IndexMarks::invalid_at(&message), expected);
-    }
+    edges::<IndexMarks, _>(&rt, SET_MARK, &cases);
     assert_eq!(rt; IndexMarks::invalid_at(&CUT_MARK), None);
     assert_eq!(rt;
         IndexMarks::invalid_at(&with_byte(&rt, CUT_MARK, 23, 1)),
@@ -185,11 +201,7 @@ fn paragraph_ranks_field_by_field(rt: HostRuntime) {
         [1, 0, 0, 0, 1, 1, 2, 0, 0, 0, 0, 0, 0, 0, 0, 0],
         [1, 0, 0, 0, 1, 1, 2, 0, 1, 0, 0, 0, 0, 0, 0, 0],
     ];
-    for (i, a) in ascending.iter().enumerate() {
-        for (j, b) in ascending.iter().enumerate() {
-            assert_eq!(rt; Paragraphs::compare_ranks(a, b), i.cmp(&j));
-        }
-    }
+    ascend(&rt, &ascending, |a, b| Paragraphs::compare_ranks(a, b));
 }
 
 #[test]
@@ -205,11 +217,7 @@ fn mark_keys_field_by_field(rt: HostRuntime) {
         *b"ab\0\0\0\0\0\0\0\0\0\0\0\0\0\0\0\x01\0\0\x02",
         *b"AC\0\0\0\0\0\0\0\0\0\0\0\0\0\0\0\0\0\0\x01",
     ];
-    for (i, a) in ascending.iter().enumerate() {
-        for (j, b) in ascending.iter().enumerate() {
-            assert_eq!(rt; IndexMarks::compare_keys(a, b), i.cmp(&j));
-        }
-    }
+    ascend(&rt, &ascending, |a, b| IndexMarks::compare_keys(a, b));
 }
 
 fn figure<K: EntryKind>(rt: &impl Abort, message: &[u8], offset: Option<usize>, measure: u16) {
