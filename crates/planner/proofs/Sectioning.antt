@@ -15,6 +15,7 @@ use Rattle.planner.specs.Bounding.{in_block, separates}
 use Rattle.planner.specs.Rows.{measure_of, section_row, row_of}
 use Rattle.planner.specs.Steps.{cut_by, left_by, section_from, FirstSection}
 use Rattle.planner.specs.Subtrees.{visits}
+use Rattle.planner.proofs.Apart.{distinct_drop}
 use Rattle.planner.proofs.Placing.{sets-append}
 
 module _ (ps : List ℕ) (b : Bounds) (xs : List ℕ) where
@@ -23,10 +24,10 @@ module _ (ps : List ℕ) (b : Bounds) (xs : List ℕ) where
 
   -- what is known of the first section
   module _ (s : List ℕ) (parts : List (List ℕ)) (are : cut_by ps b xs ≡ s ∷ parts) where
-    pub left_first : left_by ps b xs ≡ length s + length (together parts)
+    left_first : left_by ps b xs ≡ length s + length (together parts)
     left_first = ap (λ l. length (together l)) are ∙ length-append s (together parts)
 
-    pub apart_first : Distinct xs → Distinct s
+    apart_first : Distinct xs → Distinct s
     apart_first apart = (subst (AllByRecursion Distinct) are (pairwise_cut (separates ps b) (in_block ps b) _ xs apart)).0
 
 -- xs with its first section gathered, in the first `count` of `part`, and what is left of it in `rest`
@@ -38,8 +39,8 @@ pub record Parted (ps : List ℕ) (b : Bounds) (xs part rest zs : List ℕ) (cou
   pub left : length rest + end ≡ length xs
   pub behind : count ≤ end
 
-pub parted : {ps : List ℕ} {b : Bounds} {xs zs : List ℕ} {count end : ℕ} → FirstSection ps b xs zs count end → length zs ≡ length xs → (part rest : List ℕ) → part ≡ take end zs → rest ≡ drop end zs → Parted ps b xs part rest zs count end
-parted {ps} {b} {xs} {zs} {count} {end} first long part rest front back =
+pub parted : {ps : List ℕ} {b : Bounds} {xs part rest zs : List ℕ} {count end : ℕ} → FirstSection ps b xs zs count end → length zs ≡ length xs → part ≡ take end zs → rest ≡ drop end zs → Parted ps b xs part rest zs count end
+parted {ps} {b} {xs} {part} {rest} {zs} {count} {end} first long front back =
     record {
       sections = go first.sections;
       same = same;
@@ -60,7 +61,7 @@ parted {ps} {b} {xs} {zs} {count} {end} first long part rest front back =
     go (inr more) = inr (rw (same, kept) more)
 
 module _ {ps : List ℕ} {b : Bounds} {xs part rest zs : List ℕ} {count end : ℕ} (known : Parted ps b xs part rest zs count end) where
-  pub first_part : (parts : List (List ℕ)) × (cut_by ps b xs ≡ take count part ∷ parts)
+  first_part : (parts : List (List ℕ)) × (cut_by ps b xs ≡ take count part ∷ parts)
   first_part = ⊎_elim (λ last. ([], last.0)) (λ more. (cut_by ps b rest, more)) known.sections
 
   -- it is the last, or others come after it
@@ -69,6 +70,19 @@ module _ {ps : List ℕ} {b : Bounds} {xs part rest zs : List ℕ} {count end : 
 
   pub more_parts : (length (cut_by ps b xs) ≡ 1 → ⊥) → cut_by ps b xs ≡ take count part ∷ cut_by ps b rest
   more_parts several = ⊎_elim (λ last. absurd (several (ap length last.0))) (λ more. more) known.sections
+
+  -- the first section is some of the ranks, and neither in it nor in what is left does a rank stand twice
+  pub first_left : count ≤ left_by ps b xs
+  first_left = omega (arith, known.long, left_first ps b xs _ first_part.0 first_part.1)
+
+  pub first_apart : Distinct xs → Distinct (take count part)
+  first_apart = apart_first ps b xs _ first_part.0 first_part.1
+
+  pub rest_apart : Distinct xs → Distinct rest
+  rest_apart apart = subst Distinct (sym known.kept) (distinct_drop end xs apart)
+
+  pub rest_left : cut_by ps b xs ≡ take count part ∷ cut_by ps b rest → left_by ps b xs ≡ count + left_by ps b rest
+  rest_left more = rw (known.long) at (left_first ps b xs _ _ more)
 
 module _ (below : ℕ → List ℕ → List (Node ℕ)) (none : (k : ℕ) → below k [] ≡ []) where
   -- the rows of sections, the first of them apart
@@ -80,7 +94,7 @@ module _ (below : ℕ → List ℕ → List (Node ℕ)) (none : (k : ℕ) → be
       let block = ap (λ n. cond (eqb n 0) 0 k) is ∙ ap (λ b. cond b 0 k) (eqb-suc-zero (length s)) in
       ap (λ r. r ∷ map (section_row measures) (numbered below (k + length (below k (x ∷ s))) parts)) (λ i. record { block = sym block i; weight = sym is i; measure = sym sums i })
 
-  module _ (k : ℕ) (s : List ℕ) (parts : List (List ℕ)) (blocks : ℕ) (are : blocks ≡ length (below k s)) (all : List (List ℕ)) (split : all ≡ s ∷ parts) where
+  module _ (k : ℕ) {s : List ℕ} {parts all : List (List ℕ)} {blocks : ℕ} (are : blocks ≡ length (below k s)) (split : all ≡ s ∷ parts) where
     -- the rows of the first section, and then those of the others, are the rows of all
     pub rows_on : (measures : List ℕ) (t u v : List Row) → 1 ≤ k → u ≡ sets t (k - 1) (map (row_of measures) (below k s)) → v ≡ sets u (k + blocks - 1) (map (row_of measures) (forest below (k + blocks) parts)) → v ≡ sets t (k - 1) (map (row_of measures) (forest below k all))
     rows_on measures t u v first now' then' =

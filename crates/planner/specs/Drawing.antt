@@ -7,3 +7,8 @@ rank_before priorities i j =
     let p = slice_index_or priorities i 0 in
     let q = slice_index_or priorities j 0 in
     nat_lt p q || (p == q && nat_lt i j)
+
+-- what planning reads of the entries: the drawing priority and the measure of each rank
+pub record Drawn : Type 0 where
+  pub priorities : List ℕ
+  pub measures : List ℕ

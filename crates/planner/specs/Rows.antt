@@ -1,5 +1,5 @@
 -- What a row of a plan says of a block. Assumes nothing.
-use Rattle.std.specs.Prelude.{ℕ, List, map, length, sum_by, slice_index}
+use Rattle.std.specs.Prelude.{ℕ, List, map, length, take, sum_by, slice_index}
 -- `mask_of flags`: the number whose bit i is set if flag i is
 use Rattle.std.specs.Simd.Lanes.{mask_l as mask_of}
 use Rattle.fields.specs.Numbers.{filled}
@@ -29,3 +29,7 @@ row_of measures node =
       weight = node.weight;
       sections = filled 17 no_section (map (section_row measures) node.sections);
     }
+
+-- the ranks of a row's entries
+abbrev pub ranks_of : Row → List ℕ
+ranks_of row = take row.count row.entries

@@ -1,5 +1,5 @@
 // Which ranks of a subtree its block holds, and which of them are active separators.
-ghost use Rattle.std.specs.Prelude.{◌≡◌, ◌<◌, ◌≤◌, map, length};
+ghost use Rattle.std.specs.Prelude.{◌≡◌, ◌<◌, ◌≤◌, length};
 ghost use Rattle.std.specs.List.{AllByRecursion};
 ghost use Rattle.tree.specs.Laws.{Distinct};
 ghost use Rattle.tree.specs.Tree.{among_earliest, is_active};
@@ -24,8 +24,8 @@ impl<'a, E: Entry> Drawing<'a, E> {
         requires some { 0 < length ranks.now }
         requires few { length ranks.now ≤ 2000 }
         requires apart { Distinct ranks.now }
-        ensures block { AllByRecursion (λ x. in_block (map E.priority self.now.entries.now) result x ≡ among_earliest (rank_before (map E.priority self.now.entries.now)) settings.alpha ranks.now x) ranks.now }
-        ensures active { AllByRecursion (λ x. separates (map E.priority self.now.entries.now) result x ≡ is_active (rank_before (map E.priority self.now.entries.now)) settings.alpha settings.rho ranks.now x) ranks.now }
+        ensures block { AllByRecursion (λ x. in_block self.now.priorities result x ≡ among_earliest (rank_before self.now.priorities) settings.alpha ranks.now x) ranks.now }
+        ensures active { AllByRecursion (λ x. separates self.now.priorities result x ≡ is_active (rank_before self.now.priorities) settings.alpha settings.rho ranks.now x) ranks.now }
     {
         let chosen = self.earliest(ranks, settings.alpha);
         let separators = settings.fan_out(ranks.len()) - 1;
@@ -37,14 +37,14 @@ impl<'a, E: Entry> Drawing<'a, E> {
 
     // Whether the block holds a rank of its subtree.
     pub(crate) fn holds(&self, bounds: Bounds, rank: u16) -> bool
-        ensures { result ≡ in_block (map E.priority self.now.entries.now) bounds rank }
+        ensures { result ≡ in_block self.now.priorities bounds rank }
     {
         !self.earlier(bounds.last, rank)
     }
 
     // Whether a rank of its subtree is an active separator.
     pub(crate) fn separates(&self, bounds: Bounds, rank: u16) -> bool
-        ensures { result ≡ separates (map E.priority self.now.entries.now) bounds rank }
+        ensures { result ≡ separates self.now.priorities bounds rank }
     {
         match bounds.separator {
             Some(separator) => !self.earlier(separator, rank),

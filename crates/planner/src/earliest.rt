@@ -1,5 +1,5 @@
 // Which ranks of a list are drawn earliest.
-ghost use Rattle.std.specs.Prelude.{◌≡◌, ◌≤◌, map, min, length};
+ghost use Rattle.std.specs.Prelude.{◌≡◌, ◌≤◌, min, length};
 ghost use Rattle.planner.specs.Drawing.{rank_before};
 ghost use Rattle.planner.specs.Steps.{Earliest};
 ghost use Rattle.tree.specs.Laws.{Distinct};
@@ -8,11 +8,12 @@ use crate::drawing::Drawing;
 use crate::entry::Entry;
 
 impl<'a, E: Entry> Drawing<'a, E> {
-    // The ranks drawn earliest, `limit` of them or all if they are fewer, in the order in which they are drawn.
+    // The ranks drawn earliest, `limit` of them or all if they are fewer, in the order in which they are drawn: an array, since a
+    // call of the register takes no memory.
     pub(crate) fn earliest(&self, ranks: &[u16], limit: usize) -> [u16; 16]
         requires limit_bound { limit ≤ 16 }
         requires distinct { Distinct ranks.now }
-        ensures { Earliest (rank_before (map E.priority self.now.entries.now)) ranks.now (min limit (length ranks.now)) result }
+        ensures { Earliest (rank_before self.now.priorities) ranks.now (min limit (length ranks.now)) result }
     {
         let mut chosen = [0; 16];
         for (seen, rank) in ranks.iter().enumerate() {

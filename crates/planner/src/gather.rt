@@ -1,5 +1,5 @@
 // The sections of a block, taken one by one from the left.
-ghost use Rattle.std.specs.Prelude.{◌≡◌, ◌≤◌, map, length, take};
+ghost use Rattle.std.specs.Prelude.{◌≡◌, ◌≤◌, length, take};
 ghost use Rattle.planner.specs.Rows.{measure_of};
 ghost use Rattle.planner.specs.Steps.{FirstSection, section_from};
 
@@ -35,8 +35,8 @@ impl<'a, E: Entry> Drawing<'a, E> {
     // Moves the ranks of the first section together: those up to the first active separator, or all, that are not in the block.
     pub(crate) fn gather_section(&self, bounds: Bounds, ranks: &mut [u16]) -> Gathered
         requires { length ranks.old ≤ 2000 }
-        ensures first { FirstSection (map E.priority self.now.entries.now) bounds ranks.old ranks.new result.length result.end }
-        ensures measure { result.measure ≡ measure_of (map E.measure self.now.entries.now) (take result.length ranks.new) }
+        ensures first { FirstSection self.now.priorities bounds ranks.old ranks.new result.length result.end }
+        ensures measure { result.measure ≡ measure_of self.now.measures (take result.length ranks.new) }
     {
         let mut length = 0;
         let mut measure = 0;

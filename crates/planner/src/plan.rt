@@ -16,7 +16,7 @@ use crate::settings::Settings;
 
 // The planning of some entries under some settings.
 #[derive(Drop)]
-pub(crate) struct Planning<'a, E> {
+pub(crate) struct Planning<'a, E: Entry> {
     pub(crate) drawing: Drawing<'a, E>,
     pub(crate) settings: Settings,
 }
@@ -47,9 +47,9 @@ impl<'a, E: Entry> Planning<'a, E> {
         requires first { 1 ≤ number }
         requires few { number + length ranks.old ≤ 2001 }
         requires room { number + length ranks.old ≤ length table.old + 1 }
-        ensures rows { table.new ≡ sets table.old (number - 1) (map (row_of (map E.measure self.now.drawing.entries.now)) (subtree (map E.priority self.now.drawing.entries.now) self.now.settings.alpha self.now.settings.rho parent number ranks.old)) }
-        ensures count { result.blocks ≡ length (subtree (map E.priority self.now.drawing.entries.now) self.now.settings.alpha self.now.settings.rho parent number ranks.old) }
-        ensures visits { result.visits ≡ visits (subtree (map E.priority self.now.drawing.entries.now) self.now.settings.alpha self.now.settings.rho parent number ranks.old) }
+        ensures rows { table.new ≡ sets table.old (number - 1) (map (row_of self.now.drawing.measures) (subtree self.now.drawing.priorities self.now.settings.alpha self.now.settings.rho parent number ranks.old)) }
+        ensures count { result.blocks ≡ length (subtree self.now.drawing.priorities self.now.settings.alpha self.now.settings.rho parent number ranks.old) }
+        ensures visits { result.visits ≡ visits (subtree self.now.drawing.priorities self.now.settings.alpha self.now.settings.rho parent number ranks.old) }
     {
         if ranks.is_empty() {
             return Extent::default();
@@ -63,7 +63,7 @@ impl<'a, E: Entry> Planning<'a, E> {
             next: number + 1,
         };
         let beneath = self.plan_sections(ranks, table, &mut row, place);
-        table[number as usize - 1] = row;
+        table[usize::from(number) - 1] = row;
         Extent {
             blocks: 1 + beneath.blocks,
             visits: 2 * ranks.len() as u32 + beneath.visits,
@@ -83,14 +83,14 @@ impl<'a, E: Entry> Planning<'a, E> {
         requires apart { Distinct ranks.old }
         requires short { length ranks.old ≤ 2000 }
         requires first { 1 ≤ place.next }
-        requires few { place.next + left_by (map E.priority self.now.drawing.entries.now) place.bounds ranks.old ≤ 2001 }
-        requires room { place.next + left_by (map E.priority self.now.drawing.entries.now) place.bounds ranks.old ≤ length table.old + 1 }
-        requires fan { place.section + length (cut_by (map E.priority self.now.drawing.entries.now) place.bounds ranks.old) ≡ count_ones row.old.mask + 1 }
+        requires few { place.next + left_by self.now.drawing.priorities place.bounds ranks.old ≤ 2001 }
+        requires room { place.next + left_by self.now.drawing.priorities place.bounds ranks.old ≤ length table.old + 1 }
+        requires fan { place.section + length (cut_by self.now.drawing.priorities place.bounds ranks.old) ≡ count_ones row.old.mask + 1 }
         requires places { count_ones row.old.mask ≤ 16 }
-        ensures rows { table.new ≡ sets table.old (place.next - 1) (map (row_of (map E.measure self.now.drawing.entries.now)) (forest (subtree (map E.priority self.now.drawing.entries.now) self.now.settings.alpha self.now.settings.rho place.block) place.next (cut_by (map E.priority self.now.drawing.entries.now) place.bounds ranks.old))) }
-        ensures noted { row.new ≡ with_sections row.old (sets row.old.sections place.section (map (section_row (map E.measure self.now.drawing.entries.now)) (numbered (subtree (map E.priority self.now.drawing.entries.now) self.now.settings.alpha self.now.settings.rho place.block) place.next (cut_by (map E.priority self.now.drawing.entries.now) place.bounds ranks.old)))) }
-        ensures count { result.blocks ≡ length (forest (subtree (map E.priority self.now.drawing.entries.now) self.now.settings.alpha self.now.settings.rho place.block) place.next (cut_by (map E.priority self.now.drawing.entries.now) place.bounds ranks.old)) }
-        ensures visits { result.visits ≡ length ranks.old + visits (forest (subtree (map E.priority self.now.drawing.entries.now) self.now.settings.alpha self.now.settings.rho place.block) place.next (cut_by (map E.priority self.now.drawing.entries.now) place.bounds ranks.old)) }
+        ensures rows { table.new ≡ sets table.old (place.next - 1) (map (row_of self.now.drawing.measures) (forest (subtree self.now.drawing.priorities self.now.settings.alpha self.now.settings.rho place.block) place.next (cut_by self.now.drawing.priorities place.bounds ranks.old))) }
+        ensures noted { row.new ≡ with_sections row.old (sets row.old.sections place.section (map (section_row self.now.drawing.measures) (numbered (subtree self.now.drawing.priorities self.now.settings.alpha self.now.settings.rho place.block) place.next (cut_by self.now.drawing.priorities place.bounds ranks.old)))) }
+        ensures count { result.blocks ≡ length (forest (subtree self.now.drawing.priorities self.now.settings.alpha self.now.settings.rho place.block) place.next (cut_by self.now.drawing.priorities place.bounds ranks.old)) }
+        ensures visits { result.visits ≡ length ranks.old + visits (forest (subtree self.now.drawing.priorities self.now.settings.alpha self.now.settings.rho place.block) place.next (cut_by self.now.drawing.priorities place.bounds ranks.old)) }
     {
         let separators = row.mask.count_ones() as usize;
         let gathered = self.drawing.gather_section(place.bounds, ranks);

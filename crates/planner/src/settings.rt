@@ -36,7 +36,8 @@ impl Settings {
         requires { n ≤ 2000 }
         ensures { result ≡ fan_out self.alpha self.rho n }
     {
-        let rounded_up = (n.saturating_sub(self.alpha) + (self.rho - 1)) / self.rho;
-        rounded_up.max(1).min(self.alpha + 1)
+        n.saturating_sub(self.alpha)
+            .div_ceil(self.rho)
+            .clamp(1, self.alpha + 1)
     }
 }

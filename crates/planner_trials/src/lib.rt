@@ -18,23 +18,22 @@ use trials::Trials;
 
 // α, ρ and priorities of a line, printed with the blocks of their plan.
 fn show_plan<E: Trial>(rt: &HostRuntime, line: &str, tables: &mut Tables) -> anyhow::Result<()> {
-    let mut numbers: Vec<u16> = Vec::new(rt.alloc());
-    for word in line.split_whitespace() {
-        if let Ok(number) = word.parse::<u16>() {
-            numbers.push(number)?;
-        }
-    }
+    let numbers = line
+        .split_whitespace()
+        .filter_map(|word| word.parse::<u16>().ok())
+        .collect::<Vec<u16>>(rt.alloc())?;
     if let [alpha, rho, priorities @ ..] = numbers.as_slice() {
-        let mut entries = Vec::new(rt.alloc());
-        for priority in priorities {
-            entries.push(E::of(*priority))?;
+        let entries = priorities
+            .iter()
+            .map(|priority| E::of(*priority))
+            .collect::<Vec<E>>(rt.alloc())?;
+        match tables.plan(entries.as_slice(), usize::from(*alpha), usize::from(*rho)) {
+            Some(extent) => {
+                let shown = ShownPlan(tables.planned(extent));
+                println!(rt; "{line} :{shown}")?;
+            }
+            None => println!(rt; "{line} : refused")?,
         }
-        let planned = tables.plan(entries.as_slice(), usize::from(*alpha), usize::from(*rho));
-        let shown = ShownPlan {
-            rows: tables.rows.as_slice(),
-            planned,
-        };
-        println!(rt; "{line} :{shown}")?;
     }
     Ok(())
 }
@@ -66,9 +65,9 @@ pub fn run<E: Trial>(rt: &HostRuntime) -> anyhow::Result<()> {
     for line in input.lines() {
         show_plan::<E>(rt, line, &mut tables)?;
     }
-    let mut trials = Trials::new();
-    trials.all_short_lists::<E>(rt.alloc(), &mut tables)?;
-    trials.generated_lists::<E>(rt.alloc(), &mut tables)?;
+    let mut trials = Trials::new(rt.alloc(), &mut tables);
+    trials.all_short_lists::<E>()?;
+    trials.generated_lists::<E>()?;
     println!(rt;
         "{} lists planned, {} unlike the second planner",
         trials.tried, trials.unlike

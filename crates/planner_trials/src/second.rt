@@ -3,43 +3,33 @@
 use planner::entry::Entry;
 use std::alloc::{AllocError, Global};
 
-// What is to be said of a block. Its entries are ranks in key order, each with whether it is active.
+// What is to be said of a block: the number of the block above it, if it is not the root, how many entries its subtree has, its
+// entries and its sections. Its entries are ranks in key order, each with whether it is active.
 #[derive(Drop, PartialEq, Eq)]
 pub(crate) struct Block {
-    pub(crate) parent: usize,
+    pub(crate) parent: Option<usize>,
     pub(crate) weight: usize,
     pub(crate) entries: Vec<(usize, bool)>,
     pub(crate) sections: Vec<Section>,
 }
 
-// What is to be said of a section: the number of its block (0 if it is empty), and the count and the measure of its entries.
+// What is to be said of a section: the number of its block, if it has entries, and the count and the measure of its entries.
 #[derive(Clone, Copy, PartialEq, Eq)]
 pub(crate) struct Section {
-    pub(crate) number: usize,
+    pub(crate) number: Option<usize>,
     pub(crate) weight: usize,
     pub(crate) measure: usize,
 }
 
 // The ranks of some entries in the order in which they are drawn.
 fn draw<E: Entry>(heap: Global, entries: &[E]) -> Result<Vec<usize>, AllocError> {
-    let mut drawn = Vec::new(heap);
-    for (rank, entry) in entries.iter().enumerate() {
-        drawn.push((entry.priority(), rank))?;
-    }
+    let mut drawn = entries
+        .iter()
+        .enumerate()
+        .map(|(rank, entry)| (entry.priority(), rank))
+        .collect::<Vec<(u16, usize)>>(heap)?;
     drawn.sort_unstable();
     drawn.iter().map(|(_, rank)| *rank).collect(heap)
-}
-
-fn fan_out(alpha: usize, rho: usize, n: usize) -> usize {
-    let mut sections = 1usize;
-    let mut covered = alpha.saturating_add(rho);
-    for _ in 0..alpha {
-        if covered < n {
-            sections = sections.saturating_add(1);
-            covered = covered.saturating_add(rho);
-        }
-    }
-    sections
 }
 
 // How many of the first `separators` lie below a rank.
@@ -61,6 +51,16 @@ struct Second<'a, E> {
 }
 
 impl<'a, E: Entry> Second<'a, E> {
+    // How many separators are active in a block whose subtree has some entries: the fewest whose sections, one more than they are,
+    // hold the entries below the block at ρ each, or all of them.
+    fn separators(&self, weight: usize) -> usize {
+        (1..=self.alpha)
+            .take_while(|opened| {
+                self.alpha.saturating_add(self.rho.saturating_mul(*opened)) < weight
+            })
+            .count()
+    }
+
     // The ranks of a section, in the order in which they are drawn.
     fn section(
         &self,
@@ -78,22 +78,24 @@ impl<'a, E: Entry> Second<'a, E> {
 
     // A block's ranks in key order, each with whether it is active.
     fn block(&self, drawn: &[usize], separators: usize) -> Result<Vec<(usize, bool)>, AllocError> {
-        let mut entries = Vec::new(self.heap);
-        for (i, rank) in drawn.iter().take(self.alpha).enumerate() {
-            entries.push((*rank, i < separators))?;
-        }
+        let mut entries = drawn
+            .iter()
+            .take(self.alpha)
+            .enumerate()
+            .map(|(i, rank)| (*rank, i < separators))
+            .collect::<Vec<(usize, bool)>>(self.heap)?;
         entries.sort_unstable();
         Ok(entries)
     }
 
     // The sum of the measures of some ranks.
     fn measure(&self, ranks: &[usize]) -> usize {
-        let mut sum = 0usize;
-        for rank in ranks {
-            let measure = self.entries.get(*rank).map_or(0, E::measure);
-            sum = sum.saturating_add(usize::from(measure));
-        }
-        sum
+        ranks
+            .iter()
+            .filter_map(|rank| self.entries.get(*rank))
+            .fold(0usize, |sum, entry| {
+                sum.saturating_add(usize::from(entry.measure()))
+            })
     }
 
     // The blocks of the subtree of some ranks, as they are drawn, below a parent and with a number. Its depth is at most the number
@@ -102,26 +104,25 @@ impl<'a, E: Entry> Second<'a, E> {
         &self,
         depth: usize,
         drawn: &[usize],
-        parent: usize,
+        parent: Option<usize>,
         number: usize,
     ) -> Result<Vec<Block>, AllocError> {
         let mut blocks = Vec::new(self.heap);
         if depth == 0 || drawn.is_empty() {
             return Ok(blocks);
         }
-        let fan_out = fan_out(self.alpha, self.rho, drawn.len());
-        let separators = fan_out.saturating_sub(1);
+        let separators = self.separators(drawn.len());
         let mut sections = Vec::new(self.heap);
         let mut beneath = Vec::new(self.heap);
         let mut next = number.saturating_add(1);
-        for i in 0..fan_out {
+        for i in 0..=separators {
             let members = self.section(drawn, separators, i)?;
             sections.push(Section {
-                number: if members.is_empty() { 0 } else { next },
+                number: (!members.is_empty()).then_some(next),
                 weight: members.len(),
                 measure: self.measure(members.as_slice()),
             })?;
-            let mut planned = self.plan(depth - 1, members.as_slice(), number, next)?;
+            let mut planned = self.plan(depth - 1, members.as_slice(), Some(number), next)?;
             next = next.saturating_add(planned.len());
             beneath.append(&mut planned)?;
         }
@@ -150,5 +151,5 @@ pub(crate) fn plan<E: Entry>(
         rho,
     };
     let drawn = draw(heap, entries)?;
-    second.plan(drawn.len(), drawn.as_slice(), 0, 1)
+    second.plan(drawn.len(), drawn.as_slice(), None, 1)
 }

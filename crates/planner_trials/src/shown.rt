@@ -1,5 +1,4 @@
 // A plan as text: for each block its parent, its ranks with a star at the active separators, and the numbers of its sections.
-use planner::extent::Extent;
 use planner::row::Row;
 use std::fmt;
 
@@ -12,14 +11,14 @@ impl fmt::Display for ShownRow<'_> {
         let parent = row.parent;
         write!(f, " {parent}[")?;
         let mut marks = row.mask;
-        for (i, rank) in row.entries.iter().take(usize::from(row.count)).enumerate() {
+        for (i, rank) in row.ranks().iter().enumerate() {
             let comma = if i > 0 { "," } else { "" };
             let star = if marks % 2 == 1 { "*" } else { "" };
             write!(f, "{comma}{rank}{star}")?;
             marks /= 2;
         }
         write!(f, "]{{")?;
-        for (i, section) in row.sections.iter().take(row.fan_out()).enumerate() {
+        for (i, section) in row.used_sections().iter().enumerate() {
             let comma = if i > 0 { "," } else { "" };
             let block = section.block;
             write!(f, "{comma}{block}")?;
@@ -28,19 +27,13 @@ impl fmt::Display for ShownRow<'_> {
     }
 }
 
-// The blocks of a plan, or that it was refused, over the table that it was written into.
+// The rows of a plan.
 #[derive(Drop)]
-pub(crate) struct ShownPlan<'a> {
-    pub(crate) rows: &'a [Row],
-    pub(crate) planned: Option<Extent>,
-}
+pub(crate) struct ShownPlan<'a>(pub(crate) &'a [Row]);
 
 impl fmt::Display for ShownPlan<'_> {
     fn fmt<W: fmt::Write>(&self, f: &mut fmt::Formatter<W>) -> fmt::Result {
-        let Some(extent) = self.planned else {
-            return write!(f, " refused");
-        };
-        for row in self.rows.iter().take(usize::from(extent.blocks)) {
+        for row in self.0 {
             let shown = ShownRow(row);
             write!(f, "{shown}")?;
         }

@@ -1,4 +1,7 @@
 // What planning works in.
+ghost use Rattle.std.specs.Prelude.{◌≡◌, ◌≤◌, map, length, replicate, take, IfOk};
+ghost use Rattle.planner.specs.Plan.{plan_answer, plan_rows, plan_work};
+
 use planner::entry::Entry;
 use planner::extent::Extent;
 use planner::plan_tree;
@@ -7,13 +10,16 @@ use std::alloc::{AllocError, Global};
 
 #[derive(Drop)]
 pub struct Tables {
-    work: Vec<u16>,
+    pub work: Vec<u16>,
     pub rows: Vec<Row>,
 }
 
 impl Tables {
     // With room for the most entries.
-    pub fn new(heap: Global) -> Result<Tables, AllocError> {
+    pub fn new(heap: Global) -> Result<Tables, AllocError>
+        ensures work { IfOk result (λ tables. tables.work.items ≡ replicate 2000 0) }
+        ensures rows { IfOk result (λ tables. length tables.rows.items ≡ 2000) }
+    {
         Ok(Tables {
             work: vec![in heap; 0u16; 2000]?,
             rows: vec![in heap; Row::BLANK; 2000]?,
@@ -21,7 +27,11 @@ impl Tables {
     }
 
     // Plans some entries. The rows hold the plan afterwards.
-    pub fn plan<E: Entry>(&mut self, entries: &[E], alpha: usize, rho: usize) -> Option<Extent> {
+    pub fn plan<E: Entry>(&mut self, entries: &[E], alpha: usize, rho: usize) -> Option<Extent>
+        ensures answer { result ≡ plan_answer (map E.priority entries.now) alpha rho (length self.old.work.items) (length self.old.rows.items) }
+        ensures rows { self.new.rows.items ≡ plan_rows (map E.priority entries.now) (map E.measure entries.now) alpha rho (length self.old.work.items) self.old.rows.items }
+        ensures cleared { self.new.work.items ≡ plan_work (map E.priority entries.now) alpha rho self.old.work.items (length self.old.rows.items) }
+    {
         plan_tree(
             entries,
             alpha,
@@ -29,5 +39,12 @@ impl Tables {
             self.work.as_mut_slice(),
             self.rows.as_mut_slice(),
         )
+    }
+
+    // The rows of the plan that was made last, of so many blocks.
+    pub(crate) fn planned(&self, extent: Extent) -> &[Row]
+        ensures rows { extent.blocks ≤ length self.now.rows.items → result.now ≡ take extent.blocks self.now.rows.items }
+    {
+        self.rows.get(..usize::from(extent.blocks)).unwrap_or(&[])
     }
 }

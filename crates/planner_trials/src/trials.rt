@@ -6,8 +6,11 @@ use crate::trial::Trial;
 use planner::row::Row;
 use std::alloc::{AllocError, Global};
 
+// How many lists were tried, and how many of them the two plan unlike one another; and what they are planned in.
 #[derive(Drop)]
-pub(crate) struct Trials {
+pub(crate) struct Trials<'a> {
+    heap: Global,
+    tables: &'a mut Tables,
     pub(crate) tried: u64,
     pub(crate) unlike: u64,
 }
@@ -16,20 +19,21 @@ pub(crate) struct Trials {
 fn block_of(heap: Global, row: &Row) -> Result<Block, AllocError> {
     let mut entries = Vec::new(heap);
     let mut marks = row.mask;
-    for rank in row.entries.iter().take(usize::from(row.count)) {
+    for rank in row.ranks() {
         entries.push((usize::from(*rank), marks % 2 == 1))?;
         marks /= 2;
     }
-    let mut sections = Vec::new(heap);
-    for section in row.sections.iter().take(row.fan_out()) {
-        sections.push(Section {
-            number: usize::from(section.block),
+    let sections = row
+        .used_sections()
+        .iter()
+        .map(|section| Section {
+            number: (section.block != 0).then_some(usize::from(section.block)),
             weight: usize::from(section.weight),
             measure: section.measure as usize,
-        })?;
-    }
+        })
+        .collect(heap)?;
     Ok(Block {
-        parent: usize::from(row.parent),
+        parent: (row.parent != 0).then_some(usize::from(row.parent)),
         weight: usize::from(row.weight),
         entries,
         sections,
@@ -37,17 +41,27 @@ fn block_of(heap: Global, row: &Row) -> Result<Block, AllocError> {
 }
 
 // What the rows of a plan say.
-fn blocks_of(heap: Global, rows: &[Row], count: usize) -> Result<Vec<Block>, AllocError> {
+fn blocks_of(heap: Global, rows: &[Row]) -> Result<Vec<Block>, AllocError> {
     let mut blocks = Vec::new(heap);
-    for row in rows.iter().take(count) {
+    for row in rows {
         blocks.push(block_of(heap, row)?)?;
     }
     Ok(blocks)
 }
 
-impl Trials {
-    pub(crate) fn new() -> Trials {
+// How often planning these blocks visits a rank: three times for each rank of a block's subtree.
+fn visits_of(blocks: &[Block]) -> usize {
+    blocks.iter().fold(
+        0usize,
+        |visits, block| visits.saturating_add(block.weight.saturating_mul(3)),
+    )
+}
+
+impl<'a> Trials<'a> {
+    pub(crate) fn new(heap: Global, tables: &'a mut Tables) -> Trials<'a> {
         Trials {
+            heap,
+            tables,
             tried: 0,
             unlike: 0,
         }
@@ -56,19 +70,17 @@ impl Trials {
     // Plans a list by both.
     fn try_list<E: Trial>(
         &mut self,
-        heap: Global,
         entries: &[E],
         alpha: usize,
         rho: usize,
-        tables: &mut Tables,
     ) -> Result<(), AllocError> {
-        let planned = tables.plan(entries, alpha, rho);
-        let other = plan(heap, entries, alpha, rho)?;
+        let planned = self.tables.plan(entries, alpha, rho);
+        let other = plan(self.heap, entries, alpha, rho)?;
         self.tried = self.tried.saturating_add(1);
         let alike = match planned {
             Some(extent) => {
-                let count = usize::from(extent.blocks);
-                count == other.len() && blocks_of(heap, tables.rows.as_slice(), count)? == other
+                extent.visits as usize == visits_of(other.as_slice())
+                    && blocks_of(self.heap, self.tables.planned(extent))? == other
             }
             None => false,
         };
@@ -79,16 +91,12 @@ impl Trials {
     }
 
     // All lists of n priorities below n, for n up to 6: all permutations, and all ties.
-    pub(crate) fn all_short_lists<E: Trial>(
-        &mut self,
-        heap: Global,
-        tables: &mut Tables,
-    ) -> Result<(), AllocError> {
+    pub(crate) fn all_short_lists<E: Trial>(&mut self) -> Result<(), AllocError> {
         for n in 0..=6u32 {
             for code in 0..n.saturating_pow(n) {
-                let list = digits::<E>(heap, code, n, n as usize)?;
+                let list = digits::<E>(self.heap, code, n, n as usize)?;
                 for (alpha, rho) in [(1, 1), (2, 2), (2, 1)] {
-                    self.try_list(heap, list.as_slice(), alpha, rho, tables)?;
+                    self.try_list(list.as_slice(), alpha, rho)?;
                 }
             }
         }
@@ -96,18 +104,14 @@ impl Trials {
     }
 
     // Generated lists, with few ties and with many, under many settings.
-    pub(crate) fn generated_lists<E: Trial>(
-        &mut self,
-        heap: Global,
-        tables: &mut Tables,
-    ) -> Result<(), AllocError> {
+    pub(crate) fn generated_lists<E: Trial>(&mut self) -> Result<(), AllocError> {
         for seed in 0..40u32 {
             for limit in [3, 50, 65_536] {
                 for alpha in [1, 2, 3, 5, 10, 16] {
                     for rho in [1, 2, 3, 7] {
                         let n = 7 + seed as usize;
-                        let list = generated::<E>(heap, seed, n, limit)?;
-                        self.try_list(heap, list.as_slice(), alpha, rho, tables)?;
+                        let list = generated::<E>(self.heap, seed, n, limit)?;
+                        self.try_list(list.as_slice(), alpha, rho)?;
                     }
                 }
             }

@@ -1,5 +1,5 @@
-use Rattle.std.proofs.Common.{[], map, length, get_or, take, filter, sym, ap, ◌∙◌, arith}
-use Rattle.std.proofs.lemmas.List.{take_more, take_all, length-map}
+use Rattle.std.proofs.Common.{[], length, get_or, take, filter, sym, ap, ◌∙◌, arith}
+use Rattle.std.proofs.lemmas.List.{take_more, length-map}
 use Rattle.planner.specs.Bounding.{in_block, separates}
 use Rattle.planner.specs.Rows.{row_of}
 use Rattle.planner.specs.Steps.{with_entry}
@@ -9,7 +9,7 @@ use Rattle.planner.proofs.drawing.Drawing.begin_row.Goals.{then-holds, else-hold
 
 pub push-requires : goal.push-requires
 push-requires g c =
-    let ps = map g.E.Entry.priority c.args.self.now.entries.now in
+    let ps = c.args.self.now.priorities in
     let held = in_block ps c.args.bounds in
     let xs = c.args.ranks.now in
     let i = c.loop-rank.rank-index in
@@ -18,7 +18,7 @@ push-requires g c =
 
 pub loop-rank-preserved : goal.loop-rank-preserved
 loop-rank-preserved g c =
-    let ps = map g.E.Entry.priority c.args.self.now.entries.now in
+    let ps = c.args.self.now.priorities in
     let held = in_block ps c.args.bounds in
     let active = separates ps c.args.bounds in
     let xs = c.args.ranks.now in
@@ -31,6 +31,3 @@ loop-rank-preserved g c =
       | then-holds w ↦ rw w.row-is (w.push.ensures node (length-map (filter held front) active) c.loop-rank.invariant ∙ ap (row_of []) (ap (with_entry node x) w.separates.ensures ∙ begun_more held active c.args.parent (length xs) front x (sym w.if-holds.ensures)))
       | else-holds w ↦ rw w.row-is (c.loop-rank.invariant ∙ ap (row_of []) (begun_skip held active c.args.parent (length xs) front x (sym w.if-holds.ensures)))
     ])
-
-pub returns : goal.returns
-returns g c = rw (take_all c.loop-rank.rank-index c.args.ranks.now c.loop-rank-test.false) at c.loop-rank.invariant

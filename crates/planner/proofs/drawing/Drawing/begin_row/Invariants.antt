@@ -1,4 +1,4 @@
-use Rattle.std.proofs.Common.{◌≡◌, [], map, length, take}
+use Rattle.std.proofs.Common.{◌≡◌, [], length, take}
 use Rattle.planner.specs.Bounding.{in_block, separates}
 use Rattle.planner.specs.Rows.{row_of}
 use Rattle.planner.proofs.Filling.{begun}
@@ -6,5 +6,5 @@ use Rattle.planner.proofs.drawing.Drawing.begin_row.Given as goal
 
 abbrev pub invariant-loop-rank : goal.invariant-loop-rank
 invariant-loop-rank g l =
-    let priorities = map g.E.Entry.priority l.self.entries.now in
+    let priorities = l.self.priorities in
     l.row ≡ row_of [] (begun (in_block priorities l.bounds) (separates priorities l.bounds) l.parent (length l.ranks) (take l.rank-index l.ranks))

@@ -1,4 +1,4 @@
-use Rattle.std.proofs.Common.{◌≡◌, ◌-◌, ◌≤◌, map, min, length, ap, arith}
+use Rattle.std.proofs.Common.{◌≡◌, ◌-◌, ◌≤◌, min, length, ap, arith}
 use Rattle.tree.specs.Tree.{fan_out}
 use Rattle.planner.proofs.Choosing.{block_told, active_told, last_taken}
 use Rattle.planner.proofs.Fan.{fan_within}
@@ -6,11 +6,11 @@ use Rattle.planner.proofs.Order.{strict}
 use Rattle.planner.proofs.drawing.Drawing.bounds.Goals as goal
 
 pub returns-clause-block : goal.returns-clause-block
-returns-clause-block g c = block_told (strict (map g.E.Entry.priority c.args.self.now.entries.now)) c.args.ranks.now c.args.settings.alpha c.earliest-chosen.result c.earliest-chosen.ensures c.min.result c.min.ensures (omega arith)
+returns-clause-block g c = block_told (strict c.args.self.now.priorities) c.args.ranks.now c.args.settings.alpha c.earliest-chosen.result c.earliest-chosen.ensures c.min.result c.min.ensures (omega arith)
 
 pub returns-clause-active : goal.returns-clause-active
 returns-clause-active g c =
-    let ps = map g.E.Entry.priority c.args.self.now.entries.now in
+    let ps = c.args.self.now.priorities in
     let xs = c.args.ranks.now in
     let alpha = c.args.settings.alpha in
     let chosen = c.earliest-chosen.result in

@@ -1,4 +1,4 @@
-use Rattle.std.proofs.Common.{◌≡◌, ◌+◌, ◌<◌, ◌≤◌, min, [], ◌∷◌, ◌++◌, length, get_or, map, take, refl, ap, sym, ◌∙◌, subst, arith, rules}
+use Rattle.std.proofs.Common.{◌≡◌, ◌+◌, ◌<◌, ◌≤◌, min, [], ◌∷◌, ◌++◌, length, get_or, take, refl, ap, sym, ◌∙◌, subst, arith, rules}
 use Rattle.std.proofs.lemmas.List.{take_more, take_all, length-take-le}
 use Rattle.std.proofs.lemmas.List.Sorted.{IsPartitionPoint-from_clause}
 use Rattle.planner.specs.Drawing.{rank_before}
@@ -11,8 +11,8 @@ use Rattle.planner.proofs.drawing.Drawing.earliest.Goals.{then-place-limit, else
 
 pub loop-seen-preserved : goal.loop-seen-preserved
 loop-seen-preserved g c =
-    let order = strict (map g.E.Entry.priority c.args.self.now.entries.now) in
-    let before = rank_before (map g.E.Entry.priority c.args.self.now.entries.now) in
+    let order = strict c.args.self.now.priorities in
+    let before = rank_before c.args.self.now.priorities in
     let xs = c.args.ranks.now in
     let seen = c.loop-seen.seen in
     let limit = c.args.limit in
