@@ -19,7 +19,7 @@ use Rattle.tree.proofs.Lists.{all_join, map_same, map_twice}
 use Rattle.tree.proofs.Nodes.{nodes_lawful}
 use Rattle.planner.specs.Drawing.{rank_before}
 use Rattle.planner.specs.Plan.{rank_tree}
-use Rattle.planner.specs.Rows.{measure_of, no_section, row_of, section_row}
+use Rattle.planner.specs.Rows.{ranks_of, measure_of, no_section, row_of, section_row}
 use Rattle.planner.proofs.Apart.{distinct_counting}
 use Rattle.planner.proofs.Carried.{all_counting, plan_is_tree}
 use Rattle.planner.proofs.Choosing.{all_unit}
@@ -34,7 +34,7 @@ use Rattle.image.proofs.Heads.{Limits, limits}
 use Rattle.image.proofs.Loops.{every_true}
 use Rattle.rendering.specs.Laws.{table_of, priorities_of, measures_of, PlansRenderImages}
 use Rattle.rendering.proofs.Ranks.{drawn_alike}
-use Rattle.rendering.specs.Rendered.{ranks_of, row_record, message_at, in_table, renderable, row_block}
+use Rattle.rendering.specs.Rendered.{row_record, message_at, in_table, renderable, row_block}
 
 -- the front of a list that was filled up
 front_filled : {X : Type 0} (n : ℕ) (blank : X) (xs : List X) (k : ℕ) → length xs ≡ k → take k (filled n blank xs) ≡ xs

@@ -8,10 +8,12 @@ use Rattle.std.proofs.lemmas.Bool.Decides.{nat_tests}
 use Rattle.kinds.specs.Kind.{Kind}
 use Rattle.planner.specs.declared.row.Row.{Row}
 use Rattle.image.specs.Reading.{every}
+use Rattle.image.specs.Refusals.{fault_if, first_of}
 use Rattle.image.specs.Settings.{alpha_fits}
 use Rattle.rendering.specs.declared.fault.BlockFault.TheVariants.{NoMessage}
-use Rattle.rendering.specs.Refusals.{fault_if, first_of, block_refusal}
-use Rattle.rendering.specs.Rendered.{ranks_of, in_table, renderable}
+use Rattle.rendering.specs.Refusals.{block_refusal}
+use Rattle.planner.specs.Rows.{ranks_of}
+use Rattle.rendering.specs.Rendered.{in_table, renderable}
 
 -- all pass, if the first that does not is none
 none_fails : {X : Type 0} (test : X → Bool) (xs : List X) → every test xs ≡ is_none (find (λ x. not (test x)) xs)

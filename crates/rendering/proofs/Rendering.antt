@@ -12,7 +12,8 @@ use Rattle.image.specs.Image.{block_of}
 use Rattle.image.specs.Reading.{every}
 use Rattle.image.specs.Settings.{alpha_fits}
 use Rattle.image.proofs.Blocks.{Room, room}
-use Rattle.rendering.specs.Rendered.{ranks_of, message_at, in_table, renderable, front_of, row_block, row_record}
+use Rattle.planner.specs.Rows.{ranks_of}
+use Rattle.rendering.specs.Rendered.{message_at, in_table, renderable, front_of, row_block, row_record}
 use Rattle.rendering.proofs.Laying.{zeros}
 
 -- the messages of a row's entries

@@ -5,13 +5,10 @@ use Rattle.fields.specs.Numbers.{le, part}
 use Rattle.kinds.specs.Kind.{Kind}
 use Rattle.planner.specs.declared.row.Row.{Row}
 use Rattle.planner.specs.declared.row.SectionRow.{SectionRow}
+use Rattle.planner.specs.Rows.{ranks_of}
 use Rattle.image.specs.Image.{record_of, block_from}
 use Rattle.image.specs.Reading.{every}
 use Rattle.image.specs.Settings.{alpha_fits}
-
--- the ranks of a row's entries
-abbrev pub ranks_of : Row → List ℕ
-ranks_of row = take row.count row.entries
 
 abbrev pub row_record : SectionRow → List ℕ
 row_record s = record_of s.block s.weight s.measure

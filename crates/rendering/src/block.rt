@@ -5,7 +5,7 @@ ghost use Rattle.std.specs.Result.{result_err};
 ghost use Rattle.image.specs.Reading.{every};
 ghost use Rattle.rendering.specs.Laid.{with_bytes};
 ghost use Rattle.rendering.specs.Refusals.{block_refusal};
-ghost use Rattle.rendering.specs.Rendered.{front_of, in_table, message_at, ranks_of, renderable, row_block, row_record};
+ghost use Rattle.rendering.specs.Rendered.{front_of, in_table, message_at, renderable, row_block, row_record};
 ghost use Rattle.rendering.specs.View.{bytes_of};
 
 use crate::draft::Draft;
@@ -15,21 +15,6 @@ use fields::LittleEndian;
 use image::alpha_fits;
 use kinds::EntryKind;
 use planner::row::{Row, SectionRow};
-
-// The ranks of the entries.
-fn ranks_of(row: &Row) -> &[u16]
-    ensures ranks { result.now ≡ ranks_of row.now }
-    ensures count { length result.now ≡ min row.now.count 16 }
-{
-    &row.entries[0..usize::from(row.count).min(16)]
-}
-
-// The sections up to the fan-out.
-fn sections_of(row: &Row) -> &[SectionRow]
-    ensures { result.now ≡ take (count_ones row.now.mask + 1) row.now.sections }
-{
-    &row.sections[0..row.fan_out().min(17)]
-}
 
 // A block has places for all that the row says, and the table has its messages.
 fn check_row<K: EntryKind>(row: &Row, table: &Table<K>, alpha: usize) -> Result<(), BlockFault>
@@ -44,7 +29,7 @@ fn check_row<K: EntryKind>(row: &Row, table: &Table<K>, alpha: usize) -> Result<
     if row.mask.count_ones() as usize > alpha {
         return Err(BlockFault::SeparatorsAboveAlpha);
     }
-    match table.first_missing(ranks_of(row)) {
+    match table.first_missing(row.ranks()) {
         Some(rank) => Err(BlockFault::NoMessage(rank)),
         None => Ok(()),
     }
@@ -97,9 +82,9 @@ fn write_row<K: EntryKind>(row: &Row, table: &Table<K>, alpha: usize, block: &mu
 {
     let mut draft = Draft::over(block);
     put_front::<K>(&mut draft, row);
-    put_messages(&mut draft, table, ranks_of(row));
+    put_messages(&mut draft, table, row.ranks());
     draft.skip_to(8 + alpha * K::message_width());
-    put_records(&mut draft, sections_of(row));
+    put_records(&mut draft, row.used_sections());
     draft.finish();
 }
 

@@ -5,7 +5,8 @@ ghost use Rattle.rendering.specs.Laid.{skipped_to, with_bytes};
 
 use std::marker::Model;
 
-// Clauses see which block is written, and the bytes that were put down so far; the rest of the block is zero.
+// A block has 256 bytes, by the byte format. Clauses see which block is written, and the bytes that were put down so far; the rest
+// of the block is zero.
 #[derive(Drop)]
 pub(crate) struct Draft<'a> {
     block: &'a mut [u8; 256],

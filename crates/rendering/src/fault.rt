@@ -1,16 +1,7 @@
-// Why a block is not written. The cases stand in the order in which they are tested.
-use image::Setting;
+// Why a tree block is not written.
 
-// What is wrong with a head.
-#[derive(Clone, Copy, PartialEq, Eq, Debug)]
-pub enum HeadFault {
-    // The first setting that is out of its limits.
-    OutOfLimits(Setting),
-    EntriesAboveCapacity,
-    BlocksAboveEntries,
-}
-
-// What is wrong with a row, for blocks of alpha slots and a table of messages.
+// What is wrong with a row, for blocks of alpha slots and a table of messages. The cases stand in the order in which they are
+// tested.
 #[derive(Clone, Copy, PartialEq, Eq, Debug)]
 pub enum BlockFault {
     AlphaOutOfLimits,

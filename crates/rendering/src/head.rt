@@ -3,29 +3,12 @@ ghost use Rattle.std.specs.Prelude.{◌≡◌, true, if◌then◌else◌, is_ok}
 ghost use Rattle.std.specs.Result.{result_err};
 ghost use Rattle.image.specs.Image.{head_block};
 ghost use Rattle.image.specs.Reading.{head_sound};
-ghost use Rattle.rendering.specs.Refusals.{head_refusal};
+ghost use Rattle.image.specs.Refusals.{head_refusal};
 
 use crate::draft::Draft;
-use crate::fault::HeadFault;
 use fields::LittleEndian;
-use image::{Head, MARK, VERSION};
+use image::{Head, HeadFault, MARK, VERSION};
 use kinds::EntryKind;
-
-// The settings are within their limits, and the counts within those.
-fn check_head(head: &Head, width: usize) -> Result<(), HeadFault>
-    ensures { result_err result ≡ head_refusal width head.now }
-{
-    if let Some(setting) = head.settings.out_of_limits(width) {
-        return Err(HeadFault::OutOfLimits(setting));
-    }
-    if head.counts.entries > head.settings.capacity {
-        return Err(HeadFault::EntriesAboveCapacity);
-    }
-    if head.counts.blocks > head.counts.entries {
-        return Err(HeadFault::BlocksAboveEntries);
-    }
-    Ok(())
-}
 
 fn write_head<K: EntryKind>(head: &Head, block: &mut [u8; 256])
     requires { head_sound K.kind.width head.now ≡ true }
@@ -53,7 +36,9 @@ pub fn render_head<K: EntryKind>(head: &Head, block: &mut [u8; 256]) -> Result<(
     ensures refusal { result_err result ≡ head_refusal K.kind.width head.now }
     ensures block { block.new ≡ (if head_sound K.kind.width head.now then head_block K.kind head.now.settings head.now.chapter head.now.counts else block.old) }
 {
-    check_head(head, K::message_width())?;
+    if let Some(fault) = head.fault(K::message_width()) {
+        return Err(fault);
+    }
     write_head::<K>(head, block);
     Ok(())
 }

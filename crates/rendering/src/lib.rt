@@ -10,8 +10,9 @@ mod head;
 mod table;
 
 pub use block::render_block;
-pub use fault::{BlockFault, HeadFault};
+pub use fault::BlockFault;
 pub use head::render_head;
+pub use image::HeadFault;
 
 // The rows of the plan of a set of messages render to the tree blocks of its image.
 pub fn plans_render_images()

@@ -25,6 +25,7 @@ pub struct Chapter {
     pub number: u32,
     pub settings: Settings,
     pub messages: Vec<u8>,
+    // How many words there were, so that a message of another width still counts as one.
     pub count: usize,
 }
 

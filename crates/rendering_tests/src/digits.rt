@@ -3,7 +3,7 @@ ghost use Rattle.std.specs.Prelude.{◌<◌};
 
 use std::alloc::{AllocError, Global};
 
-// Any other byte counts as the digit 0.
+// Any other byte counts as the digit 0, capital letters too, which `char::to_digit` would read.
 fn digit(byte: u8) -> u8
     ensures { result < 16 }
 {
