@@ -50,7 +50,3 @@ module _ {all : List ItemValue} {messages notes : ℕ} {after : List (ℕ × Ite
 
   pub note_counted : {left : List (ℕ × ItemValue)} → Counted all messages notes left → left ≡ (k, note bs) ∷ after → Counted all messages (notes + 1) after
   note_counted h is = moved h messages (notes + 1) after (rw is refl) (rw is (omega arith))
-
--- nothing is left
-pub counted_all : {all : List ItemValue} {messages notes : ℕ} {left : List (ℕ × ItemValue)} → Counted all messages notes left → left ≡ [] → record { messages : messages ≡ messages_in all; notes : notes ≡ notes_in all }
-counted_all {messages = m} {notes = n} h is = let end = moved h m n [] (rw is refl) (rw is refl) in record { messages = omega (arith, end.of_messages); notes = omega (arith, end.of_notes) }

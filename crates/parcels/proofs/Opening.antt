@@ -1,8 +1,8 @@
 -- How items are read one by one. Assumes nothing.
-use Rattle.std.proofs.Common.{◌≡◌, ℕ, suc, ◌-◌, ◌<◌, ◌≤◌, Bool, true, false, cond, eqb, leb, List, [], ◌∷◌, ◌++◌, length, take, drop, Some, None, Ok, Err, Option, Result, sym, refl, ap, ◌∙◌, subst, ap₂, arith}
+use Rattle.std.proofs.Common.{◌≡◌, ℕ, suc, ◌≤◌, Bool, true, false, cond, eqb, leb, List, [], ◌∷◌, ◌++◌, length, take, drop, Some, None, Ok, Err, Option, Result, sym, refl, ap, ◌∙◌, subst, ap₂, arith}
 use Rattle.std.specs.Result.{result_err, result_map_both}
 use Rattle.std.proofs.lemmas.Bool.{leb-true, eqb-true}
-use Rattle.std.proofs.lemmas.List.{length-append, length-take-le, take-append-drop, nil_from_length}
+use Rattle.std.proofs.lemmas.List.{length-append, length-take-le, take-append-drop}
 use Rattle.fields.specs.Numbers.{Bytes}
 use Rattle.parcels.specs.Format.{ItemValue, message, note, encode_item, ItemFits}
 use Rattle.parcels.specs.Reading.{cut_item, read_note, read_item, read_items}
@@ -65,16 +65,3 @@ pub record Refused (width total m : ℕ) (bytes : List ℕ) (e : Option (ℕ × 
 module _ {width total m : ℕ} {bytes : List ℕ} {e : Option (ℕ × ℕ)} (left : Refused width total m bytes e) where
   pub refused_after : (n : ℕ) (p : ItemValue × List ℕ) → m ≡ suc n → read_item width bytes ≡ Some p → Refused width total n p.1 e
   refused_after n p more read = record { is = sym (err_part_mapped _ (read_items width total n p.1)) ∙ rw (more, read) at left.is }
-
-  pub refused_item : (n : ℕ) → m ≡ suc n → read_item width bytes ≡ None → Some (33, total - length bytes) ≡ e
-  refused_item n more read = rw (more, read) at left.is
-
-  pub refused_surplus : m ≡ 0 → 0 < length bytes → Some (33, total - length bytes) ≡ e
-  refused_surplus none some = sym (at_end bytes some) ∙ rw none at left.is
-    where
-      at_end : (bytes : List ℕ) → 0 < length bytes → result_err (read_items width total 0 bytes) ≡ Some (33, total - length bytes)
-      at_end [] h = absurd (omega arith)
-      at_end (b ∷ bytes) h = refl
-
-  pub refused_none : m ≡ 0 → length bytes ≡ 0 → None ≡ e
-  refused_none none empty = rw (none, nil_from_length bytes empty) at left.is

@@ -20,9 +20,6 @@ err_from_part : {X : Type 0} (r : Result X (ℕ × ℕ)) (e : ℕ × ℕ) → re
 err_from_part (Ok x) e is = absurd (none_some is)
 err_from_part (Err d) e is = cc
 
-pub header_refused : (kind width : ℕ) (bytes : List ℕ) (e : ℕ × ℕ) → Some e ≡ header_refusal kind bytes → Err e ≡ read_parcel kind width bytes
-header_refused kind width bytes e refused = rw (← refused)
-
 -- a parcel whose header is not refused, by its fields and the bytes after the header as the code has them
 module _ (kind width : ℕ) (bytes : List ℕ) (count : ℕ) (header : None ≡ header_refusal kind bytes) (counted : count ≡ count_of bytes) where
   abbrev after : List ℕ

@@ -14,6 +14,7 @@ pub struct Counts {
 }
 
 impl Parcel<'_> {
+    // Both in one walk over the items, where two chains would be two.
     pub fn counts(&self) -> Counts
         ensures messages { result.messages ≡ messages_in (contents self.now).items }
         ensures notes { result.notes ≡ notes_in (contents self.now).items }

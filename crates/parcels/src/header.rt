@@ -10,7 +10,7 @@ pub(crate) const LENGTH: usize = 12;
 
 const VERSION: u16 = 1;
 
-// Refuses what cannot be the header of a parcel of the kind.
+// Refuses what cannot be the header of a parcel of the kind, which is the number that the caller asks for.
 pub(crate) fn test_header(bytes: &[u8], kind: u8) -> Result<(), ParcelFault>
     ensures { refusal result ≡ header_refusal kind bytes.now }
 {

@@ -7,7 +7,8 @@ ghost use Rattle.parcels.specs.Reading.{read_items};
 use crate::fault::ParcelFault;
 use crate::item::{Item, open_item};
 
-// Refuses what is not as many items as counted, with nothing after them. `total` is the length of the whole parcel.
+// Refuses what is not as many items as counted, with nothing after them. `count` is what the header says, against which the bytes
+// are tested, and `total` the length of the whole parcel.
 pub(crate) fn test_items(
     items: &[u8],
     total: usize,

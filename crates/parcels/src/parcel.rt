@@ -21,8 +21,8 @@ pub struct Parcel<'a> {
 }
 
 impl<'a> Parcel<'a> {
-    // The parcel that the bytes are, for a kind and its message width, or the refusal. The two are any numbers: a type of one kind
-    // would shut out callers that read parcels of a kind of their own.
+    // The parcel that the bytes are, for a kind and its message width, or the refusal. The two are any numbers, since parcels stand
+    // below the kinds and know none of them.
     pub fn read(bytes: &'a [u8], kind: u8, width: usize) -> Result<Parcel<'a>, ParcelFault>
         ensures answer { result_map_both contents coded result ≡ read_parcel kind width bytes.now }
         ensures written { AcceptsWritten kind width bytes.now (result_map_both contents coded result) }

@@ -1,5 +1,5 @@
 // Parcels of every sort, with messages four bytes wide.
-use crate::{Item, Parcel};
+use crate::{Counts, Item, Parcel};
 use std::test::Fail;
 
 // Bytes, and the number and place of their refusal.
@@ -41,16 +41,21 @@ fn accepted(rt: HostRuntime) -> Result<(), Fail> {
     let bytes = b"PCL\x01\0\x01\x02\x01\0\x80\x04\0\x01abcd\x02\0\x02\x03xyz\x01efgh";
     let parcel = Parcel::read(bytes, 1, 4)?;
     assert_eq!(rt; parcel.chapter(), 0x8000_0102);
-    let counts = parcel.counts();
-    assert_eq!(rt; counts.messages, 2);
-    assert_eq!(rt; counts.notes, 2);
-    for (number, item) in parcel.items() {
-        let right = match item {
-            Item::Message(m) => number == 1 && m == b"abcd".as_slice()
-                || number == 4 && m == b"efgh".as_slice(),
-            Item::Note(n) => number == 2 && n.is_empty() || number == 3 && n == b"xyz".as_slice(),
-        };
-        assert!(rt; right);
+    assert_eq!(rt;
+        parcel.counts(),
+        Counts {
+            messages: 2,
+            notes: 2,
+        }
+    );
+    let expected = [
+        (1, Item::Message(b"abcd")),
+        (2, Item::Note(b"")),
+        (3, Item::Note(b"xyz")),
+        (4, Item::Message(b"efgh")),
+    ];
+    for (item, right) in parcel.items().zip(expected) {
+        assert_eq!(rt; item, right);
     }
     Ok(())
 }
@@ -58,12 +63,11 @@ fn accepted(rt: HostRuntime) -> Result<(), Fail> {
 #[test]
 fn as_many_items_as_counted(rt: HostRuntime) -> Result<(), Fail> {
     let bytes = b"PCL\x01\0\x01\x02\x01\0\x80\x04\0\x01abcd\x02\0\x02\x03xyz\x01efgh";
-    let mut seen = 0u32;
-    for (number, _) in Parcel::read(bytes, 1, 4)?.items() {
-        seen = seen.wrapping_add(1);
-        assert_eq!(rt; u32::from(number), seen);
+    let parcel = Parcel::read(bytes, 1, 4)?;
+    assert_eq!(rt; parcel.items().count(), 4);
+    for (expected, (number, _)) in (1..=4).zip(parcel.items()) {
+        assert_eq!(rt; number, expected);
     }
-    assert_eq!(rt; seen, 4);
     Ok(())
 }
 

@@ -5,7 +5,8 @@ ghost use Rattle.std.specs.Iterator.{at_most};
 
 use crate::item::{Item, open_item};
 
-// `count` items in all, of which `passed` were given; `rest` begins with the next.
+// `count` items in all, of which `passed` were given; `rest` begins with the next. They are counted here, since an item comes with its
+// number, and a range that could count them is not `Copy`.
 #[derive(Clone, Copy, Debug)]
 pub struct Items<'a> {
     pub(crate) rest: &'a [u8],
