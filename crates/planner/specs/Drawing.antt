@@ -1,4 +1,4 @@
--- The drawing order of ranks. A rank is a position in key order. Assumes nothing.
+-- The drawing order of ranks, and what planning reads of the entries. A rank is a position in key order. Assumes nothing.
 use Rattle.std.specs.Prelude.{ℕ, Bool, ◌&&◌, ◌||◌, List, ◌==◌, nat_lt, slice_index_or}
 
 -- rank i is drawn before rank j: the smaller priority first, and of equal priorities the smaller rank

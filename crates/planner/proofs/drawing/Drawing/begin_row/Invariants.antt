@@ -6,5 +6,4 @@ use Rattle.planner.proofs.drawing.Drawing.begin_row.Given as goal
 
 abbrev pub invariant-loop-rank : goal.invariant-loop-rank
 invariant-loop-rank g l =
-    let priorities = l.self.priorities in
-    l.row ≡ row_of [] (begun (in_block priorities l.bounds) (separates priorities l.bounds) l.parent (length l.ranks) (take l.rank-index l.ranks))
+    l.row ≡ row_of [] (begun (in_block l.self.priorities l.bounds) (separates l.self.priorities l.bounds) l.parent (length l.ranks) (take l.rank-index l.ranks))

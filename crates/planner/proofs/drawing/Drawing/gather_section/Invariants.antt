@@ -4,5 +4,4 @@ use Rattle.planner.proofs.drawing.Drawing.gather_section.Given as goal
 
 abbrev pub invariant-loop-i : goal.invariant-loop-i
 invariant-loop-i g l =
-    let priorities = l.self.priorities in
-    Gathering (separates priorities l.bounds) (in_block priorities l.bounds) l.initial.ranks l.ranks l.length l.i × Summed l.self.measures l.ranks l.length l.measure
+    Gathering (separates l.self.priorities l.bounds) (in_block l.self.priorities l.bounds) l.initial.ranks l.ranks l.length l.i × Summed l.self.measures l.ranks l.length l.measure

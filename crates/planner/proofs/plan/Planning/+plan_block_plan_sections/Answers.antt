@@ -92,14 +92,6 @@ plan_sections-plan_block-first-requires g t c =
     let more = some_part c.args.self.now.drawing.priorities c.args.place.bounds c.args.ranks.now in
     λ _ inside. (omega arith, (inside, (first_apart known c.requires.apart, (c.requires.first, (omega arith, omega arith)))))
 
-pub plan_sections-section-requires : goal.plan_sections-section-requires
-plan_sections-section-requires g t c =
-    let first = c.gather_section-gathered.ensures.first in
-    omega (arith, first.behind, first.within)
-
-pub plan_sections-offset_bounds-row-place : goal.plan_sections-offset_bounds-row-place
-plan_sections-offset_bounds-row-place g t c = omega (arith, some_part c.args.self.now.drawing.priorities c.args.place.bounds c.args.ranks.now)
-
 pub plan_sections-bounds-row-place : goal.plan_sections-bounds-row-place
 plan_sections-bounds-row-place g t c = omega (arith, some_part c.args.self.now.drawing.priorities c.args.place.bounds c.args.ranks.now)
 
