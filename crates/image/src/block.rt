@@ -194,7 +194,7 @@ impl<'a, K: EntryKind> TreeBlock<'a, K> {
             .is_sorted_by(|last, next| is_below::<K>(last, key_of::<K>(next)))
     }
 
-    // Block `number` of a chapter of so many tree blocks may stand in its tree.
+    // Block `number` of a chapter of so many tree blocks may stand in its tree: two numbers that only this test asks for.
     pub fn is_well_formed(&self, tree_blocks: usize, number: usize) -> bool
         ensures { result ≡ well_formed K.kind (alpha_of self.now) tree_blocks number (bytes_of self.now) }
     {

@@ -2,7 +2,8 @@
 ghost use Rattle.std.specs.Prelude.{◌≡◌, ◌==◌, cond, None, Some};
 ghost use Rattle.image.specs.Reading.{section_sound};
 
-// Any eight bytes are such a record, so the number is kept as it stands there: 0 leads to no block.
+// Any eight bytes are such a record, so the number is kept as it stands there: 0 leads to no block. A plan's row of a section has
+// these numbers too, but knows nothing of bytes.
 #[derive(Clone, Copy, PartialEq, Eq, Debug)]
 pub struct SectionFields {
     pub number: u16,

@@ -21,6 +21,7 @@ pub enum Setting {
     Capacity,
 }
 
+// The planner and the stores have these numbers too; they do not stand on this crate, nor it on them.
 const MOST_IN_BLOCK: usize = 16;
 
 const MOST: usize = 2_000;

@@ -6,8 +6,8 @@ use crate::message::{Fields, Message};
 use fields::{LittleEndian, byte_at};
 use kinds::{IndexMarks, State};
 
-// The term is filled up with zeros. The emphasis stands beside the state, also for a cut, where it is 0: a value may hold what is
-// not valid.
+// The term has 16 bytes, by the byte format, and is filled up with zeros. The emphasis stands beside the state, also for a cut, where
+// it is 0: a value may hold what is not valid.
 #[derive(Clone, Copy, PartialEq, Eq, Debug)]
 pub struct IndexMark {
     pub term: [u8; 16],

@@ -40,7 +40,7 @@ impl<'a, E: Entry> Drawing<'a, E> {
     {
         let mut length = 0;
         let mut measure = 0;
-        // By index, since the slice is written while it is read.
+        // By index, since the slice is written while it is read; to look for the end first would be a fourth pass.
         for i in 0..ranks.len() {
             let rank = ranks[i];
             if self.separates(bounds, rank) {

@@ -27,7 +27,8 @@ use work::count_up;
 
 // Plans the tree of some entries, which come in key order: a row for each block, in preorder, from the front of the table on. The
 // answer is how many blocks there are, and how many visits to ranks were counted; or none, with nothing touched, if that cannot be
-// planned. The work area may hold anything; a place for each entry is 0 afterwards.
+// planned. The work area may hold anything; a place for each entry is 0 afterwards. α and ρ are any two numbers, and one `None` stands
+// for every refusal: the calls of a chapter refuse settings and work table by number and place.
 pub fn plan_tree<E: Entry>(
     entries: &[E],
     alpha: usize,

@@ -34,7 +34,8 @@ struct Place {
 impl<'a, E: Entry> Planning<'a, E> {
     // Plans the subtree of some ranks in key order, whose root has the number `number` and stands below the block `parent`. Two
     // passes go over all its ranks for the root, and a third gathers the sections. The ranks are a plain slice, without a type that
-    // keeps them distinct: it is cut and lent on, and gathering leaves ranks in it twice.
+    // keeps them distinct: it is cut and lent on, and gathering leaves ranks in it twice; one that keeps their number would be made
+    // anew at each cut.
     #[cycle(plan_block_plan_sections)]
     pub(crate) fn plan_block(
         &self,
@@ -71,7 +72,8 @@ impl<'a, E: Entry> Planning<'a, E> {
     }
 
     // Plans the sections of a block from the one on at which planning stands, and notes them in the block's row. The answer is how
-    // many blocks they have, and the visits to their ranks that were counted, here and beneath.
+    // many blocks they have, and the visits to their ranks that were counted, here and beneath. It goes on by calling itself: a loop
+    // would need all that the contract says in its invariant.
     #[cycle(plan_block_plan_sections)]
     fn plan_sections(
         &self,

@@ -3,7 +3,7 @@ ghost use Rattle.std.specs.Prelude.{◌≡◌, ◌≤◌, None, IfSome};
 ghost use Rattle.planner.specs.Bounding.{Allowed};
 ghost use Rattle.tree.specs.Tree.{fan_out};
 
-// The most entries of a plan, and the largest ρ.
+// The most entries of a plan, and the largest ρ. The crate `image` has these limits too; neither stands on the other.
 pub(crate) const CAPACITY: usize = 2000;
 
 // The most entries of a block.

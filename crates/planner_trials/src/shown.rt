@@ -10,6 +10,7 @@ impl fmt::Display for ShownRow<'_> {
         let row = self.0;
         let parent = row.parent;
         write!(f, " {parent}[")?;
+        // The mask is gone through beside the ranks: a list of its bits would take memory.
         let mut marks = row.mask;
         for (i, rank) in row.ranks().iter().enumerate() {
             let comma = if i > 0 { "," } else { "" };

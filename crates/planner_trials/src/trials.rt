@@ -18,6 +18,7 @@ pub(crate) struct Trials<'a> {
 // What a row says, as the second planner says it.
 fn block_of(heap: Global, row: &Row) -> Result<Block, AllocError> {
     let mut entries = Vec::new(heap);
+    // The mask is gone through beside the ranks: a list of its bits would take memory.
     let mut marks = row.mask;
     for rank in row.ranks() {
         entries.push((usize::from(*rank), marks % 2 == 1))?;

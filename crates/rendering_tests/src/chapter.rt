@@ -10,6 +10,7 @@ pub enum ChapterKind {
     IndexMarks,
 }
 
+// 1 is paragraphs, and any other number index marks, by its lowest byte.
 impl From<u32> for ChapterKind {
     fn from(number: u32) -> ChapterKind {
         match number % 256 {

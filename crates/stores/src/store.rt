@@ -22,7 +22,8 @@ pub trait BlockStore {
     fn count(&self) -> usize
         ensures { result ≡ length (blocks self.now) };
 
-    // Fills the buffer with a block. A store may change what it keeps for reading, as a cache, and no block.
+    // Fills the buffer with a block. Number and buffer come apart, since a type for both would be made for one call. A store may
+    // change what it keeps for reading, as a cache, and no block.
     fn read(&mut self, block: usize, buffer: &mut [u8]) -> Result<(), StoreFault>
         ensures answer { result_map_both (λ u. u) coded result ≡ read_answer (blocks self.old) block buffer.old }
         ensures buffer { buffer.new ≡ read_buffer (blocks self.old) block buffer.old }
