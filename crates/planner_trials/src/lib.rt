@@ -57,7 +57,8 @@ fn show_visits<E: Trial>(
     Ok(())
 }
 
-// All trials, at entries of the kind `E`.
+// All trials, at entries of the kind `E`. It has no clause, since none can say what is read and printed: what the two programs print
+// is compared with what is written down beside them.
 pub fn run<E: Trial>(rt: &HostRuntime) -> anyhow::Result<()> {
     let mut input = String::new(rt.alloc());
     rt.stdin().read_to_string(&mut input)?;

@@ -1,5 +1,5 @@
 // What planning works in.
-ghost use Rattle.std.specs.Prelude.{◌≡◌, ◌≤◌, map, length, replicate, take, IfOk};
+ghost use Rattle.std.specs.Prelude.{◌≡◌, map, length, replicate, take, IfOk};
 ghost use Rattle.planner.specs.Plan.{plan_answer, plan_rows, plan_work};
 
 use planner::entry::Entry;
@@ -41,10 +41,10 @@ impl Tables {
         )
     }
 
-    // The rows of the plan that was made last, of so many blocks.
+    // The rows of the plan that was made last, of so many blocks, or as many rows as there are.
     pub(crate) fn planned(&self, extent: Extent) -> &[Row]
-        ensures rows { extent.blocks ≤ length self.now.rows.items → result.now ≡ take extent.blocks self.now.rows.items }
+        ensures { result.now ≡ take extent.blocks self.now.rows.items }
     {
-        self.rows.get(..usize::from(extent.blocks)).unwrap_or(&[])
+        &self.rows[..usize::from(extent.blocks).min(self.rows.len())]
     }
 }
