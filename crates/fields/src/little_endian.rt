@@ -65,6 +65,10 @@ fn bytes_at<const N: usize>(bytes: &[u8], at: usize) -> [u8; N]
     ensures { result ≡ filled N 0 (part at N bytes.now) }
 {
     let there = slice_at(bytes, at, N);
+    // A whole field is taken at once: to copy a number of bytes that is not known costs several times as much.
+    if let Some((field, _)) = there.split_first_chunk() {
+        return *field;
+    }
     let mut field = [0; N];
     field[..there.len()].copy_from_slice(there);
     field
