@@ -27,19 +27,20 @@ drawn_before_push before (y ∷ ys) x c = go (before y c) (drawn_before_push bef
     go true h = omega arith
     go false h = h
 
--- x put at place `at` of a list, if that is below the limit: what stood from there on stands one place higher, as far as the limit
-pub record Inserted (old : List ℕ) (limit x at : ℕ) (new : List ℕ) : Type 0 where
+-- x put at place `at` of a list, if that is below the limit: what stood from there on stands one place higher, as far as the limit and
+-- the first `count` places
+pub record Inserted (old : List ℕ) (limit count x at : ℕ) (new : List ℕ) : Type 0 where
   pub own : at < limit → get_or new at 0 ≡ x
   pub kept : (j : ℕ) → j < at → get_or new j 0 ≡ get_or old j 0
-  pub moved : (j : ℕ) → at ≤ j → j + 1 < limit → get_or new (j + 1) 0 ≡ get_or old j 0
+  pub moved : (j : ℕ) → at ≤ j → j < count → j + 1 < limit → get_or new (j + 1) 0 ≡ get_or old j 0
 
--- by a copy of what stands from `at` on, one place higher, and a write
-pub inserted : (old moved : List ℕ) (limit x at : ℕ) → at < limit → at < length moved → CopiedTo old moved at (at + 1) (limit - 1 - at) → SameBelow old moved (at + 1) → Inserted old limit x at (set moved at x)
-inserted old moved limit x at fits inside copied same =
+-- by a copy of what stands from `at` up to `end`, one place higher, and a write
+pub inserted : (old moved : List ℕ) (limit count x at end : ℕ) → end ≡ min count (limit - 1) → at < limit → at < length moved → CopiedTo old moved at (at + 1) (end - at) → SameBelow old moved (at + 1) → Inserted old limit count x at (set moved at x)
+inserted old moved limit count x at end last fits inside copied same =
     record {
       own = λ _. get_or-set_same moved at x 0 inside;
       kept = λ j less. get_or-set_other moved at j x 0 (λ e. omega arith) ∙ same j 0 (omega arith);
-      moved = λ j from below.
+      moved = λ j from within below.
           get_or-set_other moved at (j + 1) x 0 (λ e. omega arith)
           ∙ copied (j + 1) 0 (omega arith) (omega arith)
           ∙ ap (λ i. get_or old i 0) (omega arith);
@@ -74,7 +75,7 @@ module _ {before : ℕ → ℕ → Bool} (strict : Strict (λ (_ : ℕ). Unit {0
         (counted : count ≡ min limit (length ys))
         (behind : at ≤ count)
         (point : IsPartitionPoint (λ y. before y x ≡ true) (λ y. before y x ≡ false) (take count old) at)
-        (put : Inserted old limit x at new) where
+        (put : Inserted old limit count x at new) where
       taken : (j : ℕ) → j < count → get_or (take count old) j 0 ≡ get_or old j 0
       taken j within = get_or-take count old j 0 within
 
@@ -127,7 +128,7 @@ module _ {before : ℕ → ℕ → Bool} (strict : Strict (λ (_ : ℕ). Unit {0
           go (inr (inl less)) = carried j j false (omega arith) (put.kept j less) (first_before j less).1 (omega arith)
           go (inr (inr more)) =
               let up : j ≡ j - 1 + 1 = omega arith in
-              carried j (j - 1) true (omega arith) (ap (λ i. get_or new i 0) up ∙ put.moved (j - 1) (omega arith) (omega arith)) (later (j - 1) (omega arith) (omega arith)) (omega arith)
+              carried j (j - 1) true (omega arith) (ap (λ i. get_or new i 0) up ∙ put.moved (j - 1) (omega arith) (omega arith) (omega arith)) (later (j - 1) (omega arith) (omega arith)) (omega arith)
 
   -- what is not drawn after the rank at place j is among the j + 1 earliest
   pub among_by_last : (xs : List ℕ) (j c : ℕ) → Has xs c → drawn_before before xs c ≡ j → AllByRecursion (λ x. not (before c x) ≡ among_earliest before (j + 1) xs x) xs

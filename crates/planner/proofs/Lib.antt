@@ -9,3 +9,4 @@ pub mod Planning
 pub mod Sectioning
 pub mod Whole
 pub mod Carried
+pub mod Searching

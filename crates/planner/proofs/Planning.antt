@@ -56,7 +56,7 @@ module _ (ps : List ℕ) (alpha rho : ℕ) (allowed : Allowed alpha rho) where
   pub subtree_few : (parent k : ℕ) (xs : List ℕ) → Distinct xs → length (subtree ps alpha rho parent k xs) ≤ length xs
   subtree_few parent k xs apart = nodes_few (strict ps) alpha rho allowed.some (length xs) parent k xs (all_unit xs) apart (le_refl (length xs))
 
-  forest_few : (parent k : ℕ) (parts : List (List ℕ)) → AllByRecursion Distinct parts → length (forest (subtree ps alpha rho parent) k parts) ≤ length (together parts)
+  pub forest_few : (parent k : ℕ) (parts : List (List ℕ)) → AllByRecursion Distinct parts → length (forest (subtree ps alpha rho parent) k parts) ≤ length (together parts)
   forest_few parent k [] apart = omega arith
   forest_few parent k (s ∷ parts) apart =
       let first = subtree ps alpha rho parent k s in

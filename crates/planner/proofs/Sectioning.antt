@@ -24,10 +24,10 @@ module _ (ps : List ℕ) (b : Bounds) (xs : List ℕ) where
 
   -- what is known of the first section
   module _ (s : List ℕ) (parts : List (List ℕ)) (are : cut_by ps b xs ≡ s ∷ parts) where
-    left_first : left_by ps b xs ≡ length s + length (together parts)
+    pub left_first : left_by ps b xs ≡ length s + length (together parts)
     left_first = ap (λ l. length (together l)) are ∙ length-append s (together parts)
 
-    apart_first : Distinct xs → Distinct s
+    pub apart_first : Distinct xs → Distinct s
     apart_first apart = (subst (AllByRecursion Distinct) are (pairwise_cut (separates ps b) (in_block ps b) _ xs apart)).0
 
 -- xs with its first section gathered, in the first `count` of `part`, and what is left of it in `rest`
@@ -61,7 +61,7 @@ parted {ps} {b} {xs} {part} {rest} {zs} {count} {end} first long front back =
     go (inr more) = inr (rw (same, kept) more)
 
 module _ {ps : List ℕ} {b : Bounds} {xs part rest zs : List ℕ} {count end : ℕ} (known : Parted ps b xs part rest zs count end) where
-  first_part : (parts : List (List ℕ)) × (cut_by ps b xs ≡ take count part ∷ parts)
+  pub first_part : (parts : List (List ℕ)) × (cut_by ps b xs ≡ take count part ∷ parts)
   first_part = ⊎_elim (λ last. ([], last.0)) (λ more. (cut_by ps b rest, more)) known.sections
 
   -- it is the last, or others come after it

@@ -7,7 +7,7 @@ ghost use Rattle.planner.specs.Drawing.{rank_before};
 ghost use Rattle.planner.specs.Bounding.{in_block, separates};
 
 use crate::drawing::Drawing;
-use crate::entry::Entry;
+use crate::ranked::Ranked;
 use crate::settings::Settings;
 
 // The block holds the ranks that are not drawn after `last`. Active are those that are not drawn after `separator`, and none where
@@ -18,7 +18,7 @@ pub(crate) struct Bounds {
     separator: Option<u16>,
 }
 
-impl<'a, E: Entry> Drawing<'a, E> {
+impl<S: Ranked> Drawing<S> {
     // The bounds of the block over some ranks.
     pub(crate) fn bounds(&self, settings: Settings, ranks: &[u16]) -> Bounds
         requires some { 0 < length ranks.now }

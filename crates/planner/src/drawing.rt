@@ -2,36 +2,34 @@
 ghost use Rattle.std.specs.Prelude.{◌≡◌, slice_index};
 ghost use Rattle.planner.specs.Drawing.{rank_before};
 
-use crate::entry::Entry;
+use crate::ranked::Ranked;
 use std::marker::Model;
 
-// Entries in key order. A rank is a position among them; one past their end has priority and measure 0. Clauses see the two lists of
-// numbers that planning reads.
+// What is planned. Clauses see the two lists of numbers that planning reads.
 #[derive(Drop)]
-pub(crate) struct Drawing<'a, E: Entry> {
-    pub(crate) entries: &'a [E],
+pub(crate) struct Drawing<S: Ranked> {
+    pub(crate) source: S,
 }
 
-impl<'a, E: Entry> Model for Drawing<'a, E> {
-    ghost use Rattle.std.specs.Prelude.{map};
+impl<S: Ranked> Model for Drawing<S> {
     ghost use Rattle.planner.specs.Drawing.{Drawn};
 
     ghost Value = { Drawn };
 
-    ghost view = { λ drawing. record { priorities = map E.priority drawing.entries.now; measures = map E.measure drawing.entries.now } };
+    ghost view = { λ drawing. record { priorities = S.priorities drawing.source; measures = S.measures drawing.source } };
 }
 
-impl<'a, E: Entry> Drawing<'a, E> {
+impl<S: Ranked> Drawing<S> {
     pub(crate) fn priority(&self, rank: u16) -> u16
         ensures { result ≡ slice_index self.now.priorities rank }
     {
-        self.entries.get(usize::from(rank)).map_or(0, E::priority)
+        self.source.priority(rank)
     }
 
     pub(crate) fn measure(&self, rank: u16) -> u16
         ensures { result ≡ slice_index self.now.measures rank }
     {
-        self.entries.get(usize::from(rank)).map_or(0, E::measure)
+        self.source.measure(rank)
     }
 
     // Whether one rank is drawn before another.

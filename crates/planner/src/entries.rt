@@ -5,26 +5,24 @@ ghost use Rattle.planner.specs.Steps.{held_by, root_alone};
 
 use crate::bounds::Bounds;
 use crate::drawing::Drawing;
-use crate::entry::Entry;
+use crate::ranked::Ranked;
 use crate::row::Row;
 
-impl<'a, E: Entry> Drawing<'a, E> {
-    // The row of the block over some ranks, below the block `parent`, with its sections still blank.
-    pub(crate) fn begin_row(&self, bounds: Bounds, ranks: &[u16], parent: u16) -> Row
+impl<S: Ranked> Drawing<S> {
+    // Writes the row of the block over some ranks, below the block `parent`, with its sections still blank. It is written where it
+    // stays: a row that is answered would lie on the stack several times at each level of planning.
+    pub(crate) fn begin_row(&self, bounds: Bounds, ranks: &[u16], parent: u16, row: &mut Row)
         requires fits { length (held_by self.now.priorities bounds ranks.now) ≤ 16 }
         requires few { length ranks.now ≤ 2000 }
-        ensures { result ≡ row_of [] (root_alone self.now.priorities bounds parent ranks.now) }
+        ensures { row.new ≡ row_of [] (root_alone self.now.priorities bounds parent ranks.now) }
     {
-        let mut row = Row {
-            parent,
-            weight: ranks.len() as u16,
-            ..Row::BLANK
-        };
+        *row = Row::BLANK;
+        row.parent = parent;
+        row.weight = ranks.len() as u16;
         for rank in ranks {
             if self.holds(bounds, *rank) {
                 row.push(*rank, self.separates(bounds, *rank));
             }
         }
-        row
     }
 }

@@ -5,7 +5,7 @@ ghost use Rattle.planner.specs.Steps.{FirstSection, section_from};
 
 use crate::bounds::Bounds;
 use crate::drawing::Drawing;
-use crate::entry::Entry;
+use crate::ranked::Ranked;
 use crate::row::SectionRow;
 
 // The first `length` ranks are the section's, their measures sum to `measure`, and what is divided further begins at `end`.
@@ -31,7 +31,7 @@ impl Gathered {
     }
 }
 
-impl<'a, E: Entry> Drawing<'a, E> {
+impl<S: Ranked> Drawing<S> {
     // Moves the ranks of the first section together: those up to the first active separator, or all, that are not in the block.
     pub(crate) fn gather_section(&self, bounds: Bounds, ranks: &mut [u16]) -> Gathered
         requires { length ranks.old ≤ 2000 }

@@ -13,6 +13,7 @@ pub mod entry;
 pub mod extent;
 mod gather;
 mod plan;
+mod ranked;
 pub mod row;
 mod settings;
 mod work;
@@ -21,6 +22,7 @@ use drawing::Drawing;
 use entry::Entry;
 use extent::Extent;
 use plan::Planning;
+use ranked::{Entries, Lists, Ranked};
 use row::Row;
 use settings::{CAPACITY, Settings};
 use work::count_up;
@@ -41,13 +43,51 @@ pub fn plan_tree<E: Entry>(
     ensures cleared { work.new ≡ plan_work (map E.priority entries.now) alpha rho work.old (length table.old) }
     ensures fan { plannable (length entries.now) alpha rho (length work.old) (length table.old) ≡ true → MaskTellsSections (map E.priority entries.now) alpha rho }
 {
+    plan_ranked(Entries { entries }, alpha, rho, work, table)
+}
+
+// The same for priorities and measures in two lists as they lie, of any lengths: a rank past the end of the measures measures 0, and
+// what is longer than the priorities is not read.
+pub fn plan_lists(
+    priorities: &[u16],
+    measures: &[u16],
+    alpha: usize,
+    rho: usize,
+    work: &mut [u16],
+    table: &mut [Row],
+) -> Option<Extent>
+    ensures answer { result ≡ plan_answer priorities.now alpha rho (length work.old) (length table.old) }
+    ensures rows { table.new ≡ plan_rows priorities.now measures.now alpha rho (length work.old) table.old }
+    ensures cleared { work.new ≡ plan_work priorities.now alpha rho work.old (length table.old) }
+    ensures fan { plannable (length priorities.now) alpha rho (length work.old) (length table.old) ≡ true → MaskTellsSections priorities.now alpha rho }
+{
+    let lists = Lists {
+        priorities,
+        measures,
+    };
+    plan_ranked(lists, alpha, rho, work, table)
+}
+
+// Plans what tells priorities and measures.
+fn plan_ranked<S: Ranked>(
+    source: S,
+    alpha: usize,
+    rho: usize,
+    work: &mut [u16],
+    table: &mut [Row],
+) -> Option<Extent>
+    ensures answer { result ≡ plan_answer (S.priorities source) alpha rho (length work.old) (length table.old) }
+    ensures rows { table.new ≡ plan_rows (S.priorities source) (S.measures source) alpha rho (length work.old) table.old }
+    ensures cleared { work.new ≡ plan_work (S.priorities source) alpha rho work.old (length table.old) }
+    ensures fan { plannable (length (S.priorities source)) alpha rho (length work.old) (length table.old) ≡ true → MaskTellsSections (S.priorities source) alpha rho }
+{
     let settings = Settings::new(alpha, rho)?;
-    let n = entries.len();
+    let n = source.count();
     if n > CAPACITY || n > work.len() || n > table.len() {
         return None;
     }
     let planning = Planning {
-        drawing: Drawing { entries },
+        drawing: Drawing { source },
         settings,
     };
     let ranks = &mut work[..n];

@@ -9,15 +9,15 @@ ghost use Rattle.planner.specs.Subtrees.{subtree, visits, with_sections};
 
 use crate::bounds::Bounds;
 use crate::drawing::Drawing;
-use crate::entry::Entry;
 use crate::extent::Extent;
+use crate::ranked::Ranked;
 use crate::row::Row;
 use crate::settings::Settings;
 
 // The planning of some entries under some settings.
 #[derive(Drop)]
-pub(crate) struct Planning<'a, E: Entry> {
-    pub(crate) drawing: Drawing<'a, E>,
+pub(crate) struct Planning<S: Ranked> {
+    pub(crate) drawing: Drawing<S>,
     pub(crate) settings: Settings,
 }
 
@@ -31,7 +31,7 @@ struct Place {
     next: u16,
 }
 
-impl<'a, E: Entry> Planning<'a, E> {
+impl<S: Ranked> Planning<S> {
     // Plans the subtree of some ranks in key order, whose root has the number `number` and stands below the block `parent`. Two
     // passes go over all its ranks for the root, and a third gathers the sections. The ranks are a plain slice, without a type that
     // keeps them distinct: it is cut and lent on, and gathering leaves ranks in it twice; one that keeps their number would be made
@@ -56,7 +56,8 @@ impl<'a, E: Entry> Planning<'a, E> {
             return Extent::default();
         }
         let bounds = self.drawing.bounds(self.settings, ranks);
-        let mut row = self.drawing.begin_row(bounds, ranks, parent);
+        let mut row = Row::BLANK;
+        self.drawing.begin_row(bounds, ranks, parent, &mut row);
         let place = Place {
             bounds,
             block: number,

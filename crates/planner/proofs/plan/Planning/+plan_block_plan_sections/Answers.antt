@@ -33,9 +33,9 @@ bounded g t c =
 gathered : (g : given.Over) (t : ℕ) (c : plan_sections-After-split_at_mut-section g t) → Parted c.args.self.now.drawing.priorities c.args.place.bounds c.args.ranks.now c.split_at_mut-section.result.0.now c.split_at_mut-section.result.1.now c.gather_section-gathered.new.ranks c.gather_section-gathered.result.length c.gather_section-gathered.result.end
 gathered g t c = parted c.gather_section-gathered.ensures.first c.gather_section-gathered.auto.ranks c.split_at_mut-section.ensures.front c.split_at_mut-section.ensures.back
 
-pub plan_block-begin_row-row-requires : goal.plan_block-begin_row-row-requires
-plan_block-begin_row-row-requires g t c =
-    let held = (divided (bounded g t (goal.at.plan_block-begin_row-row-requires g t c).After-bounds-bounds)).held in
+pub plan_block-begin_row-requires : goal.plan_block-begin_row-requires
+plan_block-begin_row-requires g t c =
+    let held = (divided (bounded g t (goal.at.plan_block-begin_row-requires g t c).After-bounds-bounds)).held in
     record { fits = omega arith; few = omega arith }
 
 pub plan_block-plan_sections-beneath-requires : goal.plan_block-plan_sections-beneath-requires
@@ -46,7 +46,7 @@ plan_block-plan_sections-beneath-requires g t c =
     let fan = known.fan in
     let parts = known.parts in
     let falls = known.falls in
-    λ _ inside. (omega arith, (inside, (c.requires.apart, (omega arith, (omega arith, (omega arith, (omega arith, (rw c.begin_row-row.ensures (omega arith), rw c.begin_row-row.ensures (omega arith)))))))))
+    λ _ inside. (omega arith, (inside, (c.requires.apart, (omega arith, (omega arith, (omega arith, (omega arith, (rw c.begin_row.ensures (omega arith), rw c.begin_row.ensures (omega arith)))))))))
 
 pub plan_block-overflow_add-result : goal.plan_block-overflow_add-result
 plan_block-overflow_add-result g t c =
@@ -74,7 +74,7 @@ plan_block-returns g t c =
     let below = subtree ps alpha rho k in
     let noted : last.row ≡ row_of ms (root_node (rank_before ps) alpha rho below parent k xs) =
     c.plan_sections-beneath.ensures.noted
-    ∙ ap (λ row. with_sections row (sets row.sections 0 (map (section_row ms) (numbered below (k + 1) (cut_by ps c.bounds-bounds.result xs))))) c.begin_row-row.ensures
+    ∙ ap (λ row. with_sections row (sets row.sections 0 (map (section_row ms) (numbered below (k + 1) (cut_by ps c.bounds-bounds.result xs))))) c.begin_row.ensures
     ∙ root_row known parent k ms in
     let whole = ap length (subtree_parts known parent k) in
     let beneath = c.plan_sections-beneath.ensures.count in
