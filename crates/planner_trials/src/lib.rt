@@ -16,18 +16,21 @@ use tables::Tables;
 use trial::Trial;
 use trials::Trials;
 
+// The most entries that are read of a line: one more than can be planned, so that a longer line is refused as well, and takes no
+// memory.
+const MOST_READ: usize = 2_001;
+
 // α, ρ and priorities of a line, printed with the blocks of their plan.
 fn show_plan<E: Trial>(rt: &HostRuntime, line: &str, tables: &mut Tables) -> anyhow::Result<()> {
-    let numbers = line
+    let mut numbers = line
         .split_whitespace()
-        .filter_map(|word| word.parse::<u16>().ok())
-        .collect::<Vec<u16>>(rt.alloc())?;
-    if let [alpha, rho, priorities @ ..] = numbers.as_slice() {
-        let entries = priorities
-            .iter()
-            .map(|priority| E::of(*priority))
+        .filter_map(|word| word.parse::<u16>().ok());
+    if let (Some(alpha), Some(rho)) = (numbers.next(), numbers.next()) {
+        let entries = numbers
+            .take(MOST_READ)
+            .map(|priority| E::of(priority))
             .collect::<Vec<E>>(rt.alloc())?;
-        match tables.plan(entries.as_slice(), usize::from(*alpha), usize::from(*rho)) {
+        match tables.plan(entries.as_slice(), usize::from(alpha), usize::from(rho)) {
             Some(extent) => {
                 let shown = ShownPlan(tables.planned(extent));
                 println!(rt; "{line} :{shown}")?;
